@@ -1,0 +1,3 @@
+pub mod Joint
+pub mod Level
+pub mod Switch
