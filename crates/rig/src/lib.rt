@@ -1,0 +1,39 @@
+// The worked example, with the facts that are proved of it, and the cases that are run and compared.
+ghost use Rattle.rig.specs.Worked.{WorkedFacts};
+use look::level::LevelLook;
+use look::switch::SwitchLook;
+
+#[cfg(test)]
+mod tests;
+
+// The four-state map, as tables, and three level looks.
+#[derive(Clone, Copy)]
+pub struct Rig {
+    pub looks: [SwitchLook; 4],
+    pub starts: [u8; 4],
+    pub firsts: [u32; 5],
+    pub targets: [u32; 4],
+    pub levels: [LevelLook; 3],
+}
+
+// The worked example; its promise is what the definitions say of it.
+pub fn worked_example() -> Rig
+    ensures { λ r. ⌜ WorkedFacts r ⌝ }
+{
+    Rig {
+        looks: [
+            SwitchLook { marks: 0 },
+            SwitchLook { marks: 2 },
+            SwitchLook { marks: 3 },
+            SwitchLook { marks: 1 },
+        ],
+        starts: [1, 0, 0, 0],
+        firsts: [0, 1, 3, 4, 4],
+        targets: [1, 2, 3, 0],
+        levels: [
+            LevelLook { cue: 1, level: 32 },
+            LevelLook { cue: 2, level: 47 },
+            LevelLook { cue: 3, level: 48 },
+        ],
+    }
+}
