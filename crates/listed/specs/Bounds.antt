@@ -50,9 +50,9 @@ module _ {L : Type 0} where
       (λ l. ap isSome (nth-past xs s l) ∙ sym (le-ltb _ _ l))
       (cases-lt s (length xs))
     where
-    there : (xs : List L) (s : ℕ) → s < length xs → isSome (nth xs s) ≡ ltb s (length xs)
-    there [] s l = absurd (omega arith)
-    there (x ∷ xs) s l = ap isSome (nth-getD (x ∷ xs) s x l) ∙ sym (lt-ltb _ _ l)
+      there : (xs : List L) (s : ℕ) → s < length xs → isSome (nth xs s) ≡ ltb s (length xs)
+      there [] s l = absurd (omega arith)
+      there (x ∷ xs) s l = ap isSome (nth-getD (x ∷ xs) s x l) ∙ sym (lt-ltb _ _ l)
 
   pub bounded : (fault : Option ListedFault) (t : Tables L) → fault ≡ first-no (questions t) → Bounded (listed fault t)
   bounded None t e =

@@ -49,7 +49,12 @@ fn wrong_target(targets: &[u32], size: usize) -> Option<u32>
 }
 
 // What is wrong with the tables, if anything.
-pub(crate) fn table_fault<L>(looks: &[L], starts: &[u8], firsts: &[u32], targets: &[u32]) -> Option<ListedFault>
+pub(crate) fn table_fault<L>(
+    looks: &[L],
+    starts: &[u8],
+    firsts: &[u32],
+    targets: &[u32],
+) -> Option<ListedFault>
     ensures { λ r. ⌜ r ≡ first-no (questions (tables (now (looks .entry)) (now (starts .entry)) (now (firsts .entry)) (now (targets .entry)))) ⌝ }
 {
     let size = looks.len();

@@ -28,7 +28,13 @@ impl<'a, L> ListedMap<'a, L> {
         ensures fault { λ r. ⌜ r .fault ≡ first-no (questions (tables (now (looks .entry)) (now (starts .entry)) (now (firsts .entry)) (now (targets .entry)))) ⌝ }
     {
         let fault = table_fault(looks, starts, firsts, targets);
-        ListedMap { looks, starts, firsts, targets, fault }
+        ListedMap {
+            looks,
+            starts,
+            firsts,
+            targets,
+            fault,
+        }
     }
 
     // Why the tables make no map, if they make none.

@@ -2,6 +2,7 @@
 ghost use mathlib.Core.Bool.{Bool, true};
 ghost use mathlib.Core.Path.{_≡_};
 ghost use Prim.Native.Nat.{ℕ};
+
 pub mod joint;
 pub mod level;
 pub mod switch;

@@ -38,7 +38,7 @@ module _ (f : ℕ → Bool) where
       ⊎-elim
       (λ l. ap (λ o. or-else o (cond (f n) None (Some n))) (no-is n i l e lower))
       (λ l. let q : n ≡ i = omega arith in
-        ap (λ o. or-else o (cond (f n) None (Some n))) (none-no n (λ j g. lower j (omega arith))) ∙ cond-false (f n) None (Some n) (subst (λ k. f k ≡ false) (sym q) e) ∙ ap Some q)
+      ap (λ o. or-else o (cond (f n) None (Some n))) (none-no n (λ j g. lower j (omega arith))) ∙ cond-false (f n) None (Some n) (subst (λ k. f k ≡ false) (sym q) e) ∙ ap Some q)
       (cases-lt i n)
 
   abbrev Lowest : ℕ → ℕ → Type 0
@@ -50,8 +50,8 @@ module _ (f : ℕ → Bool) where
       ⊎-elim
       (λ t. never-none i (sym e ∙ cond-true (f n) None (Some n) t))
       (λ t. let at : Some n ≡ Some i = sym (cond-false (f n) None (Some n) t) ∙ e in
-        let q : n ≡ i = cc in
-        (omega arith, subst (λ k. f k ≡ false) q t, λ j l. all-yes n (sym was) j (omega arith)))
+      let q : n ≡ i = cc in
+      (omega arith, subst (λ k. f k ≡ false) q t, λ j l. all-yes n (sym was) j (omega arith)))
       (cases-bool (f n))
   found n i (Some k) was front e = let q : k ≡ i = cc in let p = front i e in (omega (arith, p .0), p .1, p .2)
 

@@ -5,6 +5,7 @@ ghost use Rattle.map.specs.Counts.{CountLaws};
 ghost use Rattle.map.specs.Meaning.{Meaning, Bounded};
 ghost use Rattle.std.specs.shelf.Maps.{nth};
 use look::Look;
+
 pub mod read;
 
 // A kind of map. Asked for a state or an entry that it does not have, it answers that there is none.
@@ -41,5 +42,4 @@ pub trait Map {
 // The lowest no and the greatest value, by which promises speak, are what their names say.
 pub fn counts_keep_their_laws()
     ensures { λ _. ⌜ CountLaws ⌝ }
-{
-}
+{}

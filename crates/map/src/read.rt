@@ -45,5 +45,4 @@ pub fn longest_list<M: Map>(map: &M) -> u32
 // Every map's structure is well formed: its starts and its targets are states.
 pub fn stays_within<M: Map>(map: &M)
     ensures { λ _. ⌜ WellFormed (structure (L·Look .sign) (meaning (now (map .entry)))) ⌝ }
-{
-}
+{}

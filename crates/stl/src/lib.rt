@@ -4,5 +4,4 @@ ghost use Rattle.stl.specs.Runs.{RunLaws};
 // Runs join end to end, and never leave a well-formed structure.
 pub fn runs_keep_their_laws()
     ensures { λ _. ⌜ RunLaws ⌝ }
-{
-}
+{}

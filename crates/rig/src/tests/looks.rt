@@ -26,7 +26,13 @@ fn a_switch_look_shows_its_marks() -> Result<(), Fail> {
         }
         check(!look.shows(65535))?;
         check(look.same_as(&SwitchLook { marks }))?;
-        check(!look.same_as(&SwitchLook { marks: marks ^ 0x1_0000 }))?;
+        check(
+            !look.same_as(
+                &SwitchLook {
+                    marks: marks ^ 0x1_0000,
+                },
+            ),
+        )?;
     }
     Ok(())
 }
@@ -74,10 +80,32 @@ fn a_joint_look_shows_both_in_turn() -> Result<(), Fail> {
         check_eq(both.shows(2 * k), left.shows(k))?;
         check_eq(both.shows(2 * k + 1), right.shows(k))?;
     }
-    let nested = JointLook { left: both, right: left };
+    let nested = JointLook {
+        left: both,
+        right: left,
+    };
     check(nested.shows(0) && nested.shows(2) && !nested.shows(4))?;
     check(nested.shows(1) && !nested.shows(3) && nested.shows(5))?;
-    check(both.same_as(&JointLook { left, right: LevelLook { cue: 9, level: 47 } }))?;
-    check(!both.same_as(&JointLook { left, right: LevelLook { cue: 1, level: 48 } }))?;
-    check(!both.same_as(&JointLook { left: SwitchLook { marks: 4 }, right }))
+    check(both.same_as(
+        &JointLook {
+            left,
+            right: LevelLook { cue: 9, level: 47 },
+        },
+    ))?;
+    check(
+        !both.same_as(
+            &JointLook {
+                left,
+                right: LevelLook { cue: 1, level: 48 },
+            },
+        ),
+    )?;
+    check(
+        !both.same_as(
+            &JointLook {
+                left: SwitchLook { marks: 4 },
+                right,
+            },
+        ),
+    )
 }

@@ -82,10 +82,22 @@ fn joint_looks_in_a_listed_map() -> Result<(), Fail> {
     let rig = worked_example();
     let dim = LevelLook { cue: 0, level: 20 };
     let looks = [
-        JointLook { left: rig.looks[0], right: dim },
-        JointLook { left: rig.looks[1], right: dim },
-        JointLook { left: rig.looks[2], right: dim },
-        JointLook { left: rig.looks[3], right: dim },
+        JointLook {
+            left: rig.looks[0],
+            right: dim,
+        },
+        JointLook {
+            left: rig.looks[1],
+            right: dim,
+        },
+        JointLook {
+            left: rig.looks[2],
+            right: dim,
+        },
+        JointLook {
+            left: rig.looks[3],
+            right: dim,
+        },
     ];
     let map = ListedMap::new(&looks, &rig.starts, &rig.firsts, &rig.targets);
     has_the_four_states(&map)?;

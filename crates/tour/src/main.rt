@@ -1,0 +1,30 @@
+// A tour of the checker: one real task from start to finish, told as it goes.
+mod broken;
+mod show;
+
+use listed::answers::ListedMapMap;
+use listed::table::ListedMap;
+use look::switch::SwitchLookLook;
+use rig::worked_example;
+use std::io;
+
+// The four-state map: read its tables, make it, ask it, walk it.
+fn walk_the_example(rt: &LibcRuntime) -> io::Result<()> {
+    let rig = worked_example();
+    println!(rt, "1. A map of four states")?;
+    show::tables(rt, &rig.looks, &rig.starts, &rig.firsts, &rig.targets)?;
+    let map = ListedMap::new(&rig.looks, &rig.starts, &rig.firsts, &rig.targets);
+    show::outcome(rt, &map)?;
+    show::states(rt, &map)?;
+    show::walk(rt, &map, 0)?;
+    println!(rt, "")
+}
+
+fn main(rt: LibcRuntime) -> io::Result<()> {
+    walk_the_example(&rt)?;
+    println!(rt, "2. Tables that make no map")?;
+    broken::too_many_looks(&rt)?;
+    broken::wrong_lengths(&rt)?;
+    broken::wrong_first(&rt)?;
+    broken::wrong_target(&rt)
+}
