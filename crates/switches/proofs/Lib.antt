@@ -1,0 +1,4 @@
+mod Words
+mod Meets
+mod Steps
+mod Looks
