@@ -23,9 +23,9 @@ pub on-test : (mask s : ℕ) → mask < 2 ^ 32 → eqb (bitAnd s mask) mask ≡ 
 on-test mask s h =
     same-from-decides _ _ (decides-eqb (bitAnd s mask) mask)
     (decides-like (all-on mask s)
-      (λ all. same-word _ _ (λ j. has-and s mask j ∙ ⊎-elim (λ l. covered (has mask j) (has s j) (all j l)) (λ l. absent (has mask j) (has s j) (none-high 32 mask j h l)) (cases-lt j 32)))
-      (λ e j l. covers (has mask j) (has s j) (sym (has-and s mask j) ∙ ap (λ w. has w j) e))
-      (every-decides (λ j. not (has mask j) || has s j) 32))
+    (λ all. same-word _ _ (λ j. has-and s mask j ∙ ⊎-elim (λ l. covered (has mask j) (has s j) (all j l)) (λ l. absent (has mask j) (has s j) (none-high 32 mask j h l)) (cases-lt j 32)))
+    (λ e j l. covers (has mask j) (has s j) (sym (has-and s mask j) ∙ ap (λ w. has w j) e))
+    (every-decides (λ j. not (has mask j) || has s j) 32))
   where
     covered : (m x : Bool) → (not m || x) ≡ true → (x && m) ≡ m
     covered true true e = refl
@@ -50,9 +50,9 @@ pub off-test : (mask s : ℕ) → mask < 2 ^ 32 → eqb (bitAnd s mask) 0 ≡ al
 off-test mask s h =
     same-from-decides _ _ (decides-eqb (bitAnd s mask) 0)
     (decides-like (all-off mask s)
-      (λ all. same-word _ _ (λ j. has-and s mask j ∙ ⊎-elim (λ l. cleared (has mask j) (has s j) (all j l)) (λ l. absent (has mask j) (has s j) (none-high 32 mask j h l)) (cases-lt j 32) ∙ sym (none-of-zero j)))
-      (λ e j l. clears (has mask j) (has s j) (sym (has-and s mask j) ∙ ap (λ w. has w j) e ∙ none-of-zero j))
-      (every-decides (λ j. not (has mask j) || not (has s j)) 32))
+    (λ all. same-word _ _ (λ j. has-and s mask j ∙ ⊎-elim (λ l. cleared (has mask j) (has s j) (all j l)) (λ l. absent (has mask j) (has s j) (none-high 32 mask j h l)) (cases-lt j 32) ∙ sym (none-of-zero j)))
+    (λ e j l. clears (has mask j) (has s j) (sym (has-and s mask j) ∙ ap (λ w. has w j) e ∙ none-of-zero j))
+    (every-decides (λ j. not (has mask j) || not (has s j)) 32))
   where
     cleared : (m x : Bool) → (not m || not x) ≡ true → (x && m) ≡ false
     cleared true true e = sym e

@@ -39,7 +39,9 @@ pub impl<'a> Map for SwitchMap<'a> as SwitchMapMap {
 
     fn look_of(&self, s: u32) -> Option<SwitchLook> {
         if self.has(s) {
-            Some(SwitchLook { marks: s & self.panel.visible })
+            Some(SwitchLook {
+                marks: s & self.panel.visible,
+            })
         } else {
             None
         }

@@ -3,6 +3,6 @@ pub mod answers;
 pub mod command;
 pub mod fault;
 mod judge;
-mod open;
 pub mod made;
+mod open;
 pub mod panel;

@@ -35,10 +35,23 @@ impl<'a> SwitchMap<'a> {
     {
         let fault = switch_fault(panel, commands);
         if fault.is_none() {
-            SwitchMap { panel, commands, fault }
+            SwitchMap {
+                panel,
+                commands,
+                fault,
+            }
         } else {
-            let panel = Panel { bits: 0, visible: 0, start_on: 0, start_off: 0 };
-            SwitchMap { panel, commands: &commands[0..0], fault }
+            let panel = Panel {
+                bits: 0,
+                visible: 0,
+                start_on: 0,
+                start_off: 0,
+            };
+            SwitchMap {
+                panel,
+                commands: &commands[0..0],
+                fault,
+            }
         }
     }
 

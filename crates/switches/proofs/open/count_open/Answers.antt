@@ -9,11 +9,11 @@ pub loop-c-again : need.loop-c-again
 loop-c-again c =
     elim (c .if-is-open .came) [
       | then-is-open w ↦
-        let step = ap length (open-step (c .args .commands .now) (c .args .s) (c .loop-c .c-index) _ (c .loop-c-test .taken) (sym (w .if-is-open .ensures tt))) in
-        (omega (arith, w .count-is, c .loop-c .inv .0), omega (arith, w .count-is, step, c .loop-c .inv .1))
+          let step = ap length (open-step (c .args .commands .now) (c .args .s) (c .loop-c .c-index) _ (c .loop-c-test .taken) (sym (w .if-is-open .ensures tt))) in
+          (omega (arith, w .count-is, c .loop-c .inv .0), omega (arith, w .count-is, step, c .loop-c .inv .1))
       | else-is-open w ↦
-        let step = ap length (shut-step (c .args .commands .now) (c .args .s) (c .loop-c .c-index) _ (c .loop-c-test .taken) (sym (w .if-is-open .ensures tt))) in
-        (omega (arith, w .count-is, c .loop-c .inv .0), omega (arith, w .count-is, step, c .loop-c .inv .1))
+          let step = ap length (shut-step (c .args .commands .now) (c .args .s) (c .loop-c .c-index) _ (c .loop-c-test .taken) (sym (w .if-is-open .ensures tt))) in
+          (omega (arith, w .count-is, c .loop-c .inv .0), omega (arith, w .count-is, step, c .loop-c .inv .1))
     ]
 
 pub returns : need.returns

@@ -16,11 +16,11 @@ pub loop-c-again : need.loop-c-again
 loop-c-again c =
     elim (c .if-is-open .came) [
       | then-is-open·else-left-eq0 w ↦
-        let step = open-step (c .args .commands .now) (c .args .s) (c .loop-c .c-index) _ (c .loop-c-test .taken) (sym (w .if-is-open .ensures tt)) in
-        sym (ap (λ xs. nth xs (c .loop-c .left)) step ∙ nth-next _ _ (c .loop-c .left) (c .if-is-open .left) (omega (arith, w .left-is, w .if-left-eq0 .left))) ∙ c .loop-c .inv
+          let step = open-step (c .args .commands .now) (c .args .s) (c .loop-c .c-index) _ (c .loop-c-test .taken) (sym (w .if-is-open .ensures tt)) in
+          sym (ap (λ xs. nth xs (c .loop-c .left)) step ∙ nth-next _ _ (c .loop-c .left) (c .if-is-open .left) (omega (arith, w .left-is, w .if-left-eq0 .left))) ∙ c .loop-c .inv
       | else-is-open w ↦
-        let step = shut-step (c .args .commands .now) (c .args .s) (c .loop-c .c-index) _ (c .loop-c-test .taken) (sym (w .if-is-open .ensures tt)) in
-        ap (nth _) (w .left-is) ∙ sym (ap (λ xs. nth xs (c .loop-c .left)) step) ∙ c .loop-c .inv
+          let step = shut-step (c .args .commands .now) (c .args .s) (c .loop-c .c-index) _ (c .loop-c-test .taken) (sym (w .if-is-open .ensures tt)) in
+          ap (nth _) (w .left-is) ∙ sym (ap (λ xs. nth xs (c .loop-c .left)) step) ∙ c .loop-c .inv
     ]
 
 pub returns : need.returns
