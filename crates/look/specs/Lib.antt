@@ -1,3 +1,4 @@
+pub mod Bits
 pub mod Joint
 pub mod Level
 pub mod Switch

@@ -10,6 +10,7 @@ use Rattle.look.specs.declared.switch.SwitchLook.{SwitchLook}
 use Rattle.map.specs.Meaning.{Meaning}
 use Rattle.map.specs.Questions.{first-no}
 use Rattle.listed.specs.Tables.{Tables, tables, questions, listed}
+use Rattle.switches.specs.Switched.{questions as asked-of-switches, switched}
 use Rattle.rig.specs.declared.Rig.{Rig}
 
 -- the tables of the four-state map
@@ -19,6 +20,10 @@ tables-of r = tables (r .looks) (r .starts) (r .firsts) (r .targets)
 -- the map that they make
 abbrev pub four-states : Rig → Meaning SwitchLook
 four-states r = listed None (tables-of r)
+
+-- the map of the two switches and their command
+abbrev pub two-switches : Rig → Meaning SwitchLook
+two-switches r = switched None (r .panel) (r .commands)
 
 pub record WorkedFacts (r : Rig) : Type 0 where
   -- the four states show the marks 0, 2, 3 and 1
@@ -33,3 +38,7 @@ pub record WorkedFacts (r : Rig) : Type 0 where
   pub levels : map (λ l. l .level) (r .levels) ≡ 32 ∷ (47 ∷ (48 ∷ []))
   pub same-step : level-same 32 47 ≡ true
   pub next-step : level-same 47 48 ≡ false
+  -- two switches, and a command that needs switch 0 off, turns it on and switch 1 off: 0 and 2 move to 1, 1 and 3 do not move
+  pub switches-made : first-no (asked-of-switches (r .panel) (r .commands)) ≡ None
+  pub switches-size : two-switches r .size ≡ 4
+  pub switches-move : map (two-switches r .list) (0 ∷ (1 ∷ (2 ∷ (3 ∷ [])))) ≡ (1 ∷ []) ∷ ([] ∷ ((1 ∷ []) ∷ ([] ∷ [])))

@@ -2,11 +2,13 @@
 ghost use Rattle.rig.specs.Worked.{WorkedFacts};
 use look::level::LevelLook;
 use look::switch::SwitchLook;
+use switches::command::Command;
+use switches::panel::Panel;
 
 #[cfg(test)]
 mod tests;
 
-// The four-state map, as tables, and three level looks.
+// The four-state map, as tables, three level looks, and two switches with a command.
 #[derive(Clone, Copy)]
 pub struct Rig {
     pub looks: [SwitchLook; 4],
@@ -14,6 +16,8 @@ pub struct Rig {
     pub firsts: [u32; 5],
     pub targets: [u32; 4],
     pub levels: [LevelLook; 3],
+    pub panel: Panel,
+    pub commands: [Command; 1],
 }
 
 // The worked example; its promise is what the definitions say of it.
@@ -35,5 +39,17 @@ pub fn worked_example() -> Rig
             LevelLook { cue: 2, level: 47 },
             LevelLook { cue: 3, level: 48 },
         ],
+        panel: Panel {
+            bits: 2,
+            visible: 3,
+            start_on: 0,
+            start_off: 3,
+        },
+        commands: [Command {
+            need_on: 0,
+            need_off: 1,
+            turn_on: 1,
+            turn_off: 2,
+        }],
     }
 }

@@ -1,2 +1,6 @@
+pub mod Iff
 pub mod Structures
 pub mod Runs
+pub mod Until
+pub mod Formulas
+pub mod Rows

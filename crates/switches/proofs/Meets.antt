@@ -10,9 +10,10 @@ use Rattle.std.proofs.shelf.Bits.{and-le-l, or-lt}
 use Rattle.std.proofs.shelf.Tests.{cases-lt}
 use Rattle.std.proofs.shelf.Ways.{same-from-decides, decides-eqb, decides-like, decides-below-and}
 use Rattle.std.specs.Orderings.{Decides}
-use Rattle.switches.specs.Masks.{has, every, all-on, all-off, set-of}
-use Rattle.switches.specs.Sets.{none-high}
-use Rattle.switches.proofs.Words.{has-and, has-or, has-not, same-word, none-of-zero, is-set}
+use Rattle.look.specs.Bits.{bit-on}
+use Rattle.switches.specs.Masks.{every, all-on, all-off, set-of}
+use Rattle.look.proofs.Bits.{bit-and, bit-or, bit-not, same-word, none-of-zero, none-high}
+use Rattle.switches.proofs.Words.{is-set}
 
 pub every-decides : (f : ℕ → Bool) (n : ℕ) → Decides (every f n) ((j : ℕ) → j < n → f j ≡ true)
 unfolding every
@@ -23,9 +24,9 @@ pub on-test : (mask s : ℕ) → mask < 2 ^ 32 → eqb (bitAnd s mask) mask ≡ 
 on-test mask s h =
     same-from-decides _ _ (decides-eqb (bitAnd s mask) mask)
     (decides-like (all-on mask s)
-    (λ all. same-word _ _ (λ j. has-and s mask j ∙ ⊎-elim (λ l. covered (has mask j) (has s j) (all j l)) (λ l. absent (has mask j) (has s j) (none-high 32 mask j h l)) (cases-lt j 32)))
-    (λ e j l. covers (has mask j) (has s j) (sym (has-and s mask j) ∙ ap (λ w. has w j) e))
-    (every-decides (λ j. not (has mask j) || has s j) 32))
+    (λ all. same-word _ _ (λ j. bit-and s mask j ∙ ⊎-elim (λ l. covered (bit-on mask j) (bit-on s j) (all j l)) (λ l. absent (bit-on mask j) (bit-on s j) (none-high 32 mask j h l)) (cases-lt j 32)))
+    (λ e j l. covers (bit-on mask j) (bit-on s j) (sym (bit-and s mask j) ∙ ap (λ w. bit-on w j) e))
+    (every-decides (λ j. not (bit-on mask j) || bit-on s j) 32))
   where
     covered : (m x : Bool) → (not m || x) ≡ true → (x && m) ≡ m
     covered true true e = refl
@@ -50,9 +51,9 @@ pub off-test : (mask s : ℕ) → mask < 2 ^ 32 → eqb (bitAnd s mask) 0 ≡ al
 off-test mask s h =
     same-from-decides _ _ (decides-eqb (bitAnd s mask) 0)
     (decides-like (all-off mask s)
-    (λ all. same-word _ _ (λ j. has-and s mask j ∙ ⊎-elim (λ l. cleared (has mask j) (has s j) (all j l)) (λ l. absent (has mask j) (has s j) (none-high 32 mask j h l)) (cases-lt j 32) ∙ sym (none-of-zero j)))
-    (λ e j l. clears (has mask j) (has s j) (sym (has-and s mask j) ∙ ap (λ w. has w j) e ∙ none-of-zero j))
-    (every-decides (λ j. not (has mask j) || not (has s j)) 32))
+    (λ all. same-word _ _ (λ j. bit-and s mask j ∙ ⊎-elim (λ l. cleared (bit-on mask j) (bit-on s j) (all j l)) (λ l. absent (bit-on mask j) (bit-on s j) (none-high 32 mask j h l)) (cases-lt j 32) ∙ sym (none-of-zero j)))
+    (λ e j l. clears (bit-on mask j) (bit-on s j) (sym (bit-and s mask j) ∙ ap (λ w. bit-on w j) e ∙ none-of-zero j))
+    (every-decides (λ j. not (bit-on mask j) || not (bit-on s j)) 32))
   where
     cleared : (m x : Bool) → (not m || not x) ≡ true → (x && m) ≡ false
     cleared true true e = sym e
@@ -73,11 +74,11 @@ off-test mask s h =
     clears false false e = refl
 
 -- the switches of s without those of off, and those of on
-pub turned : (s on off : ℕ) → s < 2 ^ 32 → on < 2 ^ 32 → off < 2 ^ 32 → bitOr (bitAnd s (2 ^ 32 - 1 - off)) on ≡ set-of (λ j. (has s j && not (has off j)) || has on j) 32
+pub turned : (s on off : ℕ) → s < 2 ^ 32 → on < 2 ^ 32 → off < 2 ^ 32 → bitOr (bitAnd s (2 ^ 32 - 1 - off)) on ≡ set-of (λ j. (bit-on s j && not (bit-on off j)) || bit-on on j) 32
 turned s on off hs hon hoff =
     is-set _ 32 _ (or-lt 32 (bitAnd s (2 ^ 32 - 1 - off)) on (omega (arith, and-le-l s (2 ^ 32 - 1 - off))) hon)
-    (λ j l. has-or (bitAnd s (2 ^ 32 - 1 - off)) on j ∙ ap (λ b. b || has on j) (has-and s (2 ^ 32 - 1 - off) j ∙ ap (λ b. has s j && b) (has-not 32 off j hoff l)))
+    (λ j l. bit-or (bitAnd s (2 ^ 32 - 1 - off)) on j ∙ ap (λ b. b || bit-on on j) (bit-and s (2 ^ 32 - 1 - off) j ∙ ap (λ b. bit-on s j && b) (bit-not 32 off j hoff l)))
 
 -- the switches of both
-pub common : (a b : ℕ) → a < 2 ^ 32 → bitAnd a b ≡ set-of (λ j. has a j && has b j) 32
-common a b h = is-set _ 32 _ (omega (arith, and-le-l a b)) (λ j l. has-and a b j)
+pub common : (a b : ℕ) → a < 2 ^ 32 → bitAnd a b ≡ set-of (λ j. bit-on a j && bit-on b j) 32
+common a b h = is-set _ 32 _ (omega (arith, and-le-l a b)) (λ j l. bit-and a b j)

@@ -19,8 +19,9 @@ use Rattle.std.specs.declared.option.Option.the-variants.{Some, None}
 use Rattle.std.specs.shelf.Lists.{All, kept-by}
 use Rattle.map.specs.Meaning.{Bounded}
 use Rattle.switches.specs.Commands.{is-open, target-of, targets-of}
-use Rattle.switches.specs.Masks.{has, within, all-off}
-use Rattle.switches.specs.Sets.{none-high, set-below}
+use Rattle.switches.specs.Masks.{within, all-off}
+use Rattle.look.proofs.Bits.{none-high}
+use Rattle.switches.specs.Sets.{set-below}
 use Rattle.switches.specs.Switched.{right-command, right-commands, right-panel, right-masks, look-of, switched}
 use Rattle.switches.specs.declared.command.Command.{Command}
 use Rattle.switches.specs.declared.fault.SwitchFault.{SwitchFault}

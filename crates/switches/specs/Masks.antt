@@ -1,11 +1,8 @@
--- Masks and states as sets of switches. Assumes nothing.
+-- Masks and states as sets of switches: switch j is in the set where bit j is 1. Assumes nothing.
 use mathlib.Core.Bool.{Bool, true, not, cond, _&&_, _||_}
-use Prim.Native.Nat.{ℕ, zero, suc, _+_, _*_, _/_, _%_, _^_}
-use lib.Dec.{ltb, eqb}
-
--- switch j is in the set: bit j is 1
-abbrev pub has : ℕ → ℕ → Bool
-has set j = eqb ((set / 2 ^ j) % 2) 1
+use Prim.Native.Nat.{ℕ, zero, suc, _+_, _*_, _^_}
+use lib.Dec.{ltb}
+use Rattle.look.specs.Bits.{bit-on}
 
 -- f of each number below n
 unfoldable pub every : (ℕ → Bool) → ℕ → Bool
@@ -14,11 +11,11 @@ every f (suc n) = f n && every f n
 
 -- all switches of the mask are on at s
 abbrev pub all-on : ℕ → ℕ → Bool
-all-on mask s = every (λ j. not (has mask j) || has s j) 32
+all-on mask s = every (λ j. not (bit-on mask j) || bit-on s j) 32
 
 -- all switches of the mask are off at s
 abbrev pub all-off : ℕ → ℕ → Bool
-all-off mask s = every (λ j. not (has mask j) || not (has s j)) 32
+all-off mask s = every (λ j. not (bit-on mask j) || not (bit-on s j)) 32
 
 -- the set of the switches j below n where f j
 unfoldable pub set-of : (ℕ → Bool) → ℕ → ℕ

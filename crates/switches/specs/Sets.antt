@@ -1,19 +1,13 @@
 -- How large a set of switches is as a number. These facts stand beside the definitions since each switch map carries
 -- them. Assumes nothing.
 use mathlib.Core.Bool.{Bool, true, false, cond}
-use mathlib.Core.Path.{_≡_, ap}
-use Prim.Native.Nat.{ℕ, zero, suc, _+_, _*_, _/_, _%_, _^_, _≤_, _<_}
-use native.Mathlib.Nat.{div-eq-of-lt, pow-succ'}
+use mathlib.Core.Path.{_≡_}
+use Prim.Native.Nat.{ℕ, zero, suc, _+_, _*_, _^_, _≤_, _<_}
+use native.Mathlib.Nat.{pow-succ'}
 use native.Mathlib.Omega.{arith}
-use lib.Dec.{eqb}
-use lib.Pow.{pow-mono}
 use Rattle.std.proofs.shelf.Bits.{pow-pos}
 use Rattle.std.proofs.shelf.Tests.{cond-false}
-use Rattle.switches.specs.Masks.{has, set-of}
-
--- a set below 2 to the n has no switch from n on
-pub none-high : (n set j : ℕ) → set < 2 ^ n → n ≤ j → has set j ≡ false
-none-high n set j h l = ap (λ q. eqb (q % 2) 1) (div-eq-of-lt (omega (arith, pow-mono {i = n} {j = j} l)))
+use Rattle.switches.specs.Masks.{set-of}
 
 bit-le : (b : Bool) → cond b 1 0 ≤ 1
 bit-le true = omega arith

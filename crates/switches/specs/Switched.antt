@@ -9,8 +9,9 @@ use Rattle.std.specs.declared.option.Option.the-variants.{Some, None}
 use Rattle.look.specs.declared.switch.SwitchLook.{SwitchLook}
 use Rattle.map.specs.Meaning.{Meaning}
 use Rattle.map.specs.Questions.{Question, ask}
+use Rattle.look.specs.Bits.{bit-on}
 use Rattle.switches.specs.Commands.{targets-of}
-use Rattle.switches.specs.Masks.{has, within, all-on, all-off, set-of}
+use Rattle.switches.specs.Masks.{within, all-on, all-off, set-of}
 use Rattle.switches.specs.declared.command.Command.{Command}
 use Rattle.switches.specs.declared.fault.SwitchFault.{SwitchFault}
 use Rattle.switches.specs.declared.fault.SwitchFault.the-variants.{WrongSwitchCount, TooManyCommands, WrongMask}
@@ -42,7 +43,7 @@ questions p commands =
 
 -- the switches of s that show
 abbrev pub look-of : Panel → ℕ → SwitchLook
-look-of p s = record { marks = set-of (λ j. has s j && has (p .visible) j) 32 }
+look-of p s = record { marks = set-of (λ j. bit-on s j && bit-on (p .visible) j) 32 }
 
 -- the map that they make: a state for each setting of the switches; refused ones make the map of size 0
 abbrev pub switched : Option SwitchFault → Panel → List Command → Meaning SwitchLook

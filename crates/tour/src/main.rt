@@ -1,5 +1,6 @@
 // A tour of the checker: one real task from start to finish, told as it goes.
 mod broken;
+mod kinds;
 mod show;
 
 use listed::answers::ListedMapMap;
@@ -14,17 +15,31 @@ fn walk_the_example(rt: &LibcRuntime) -> io::Result<()> {
     println!(rt, "1. A map of four states")?;
     show::tables(rt, &rig.looks, &rig.starts, &rig.firsts, &rig.targets)?;
     let map = ListedMap::new(&rig.looks, &rig.starts, &rig.firsts, &rig.targets);
-    show::outcome(rt, &map)?;
+    show::made(rt, &map)?;
     show::states(rt, &map)?;
-    show::walk(rt, &map, 0)?;
-    println!(rt, "")
+    show::walk(rt, &map, 0)
+}
+
+// What makes no map, once for each refusal.
+fn offer_what_is_broken(rt: &LibcRuntime) -> io::Result<()> {
+    println!(rt, "4. What makes no map")?;
+    broken::too_many_looks(rt)?;
+    broken::wrong_lengths(rt)?;
+    broken::wrong_first(rt)?;
+    broken::wrong_target(rt)?;
+    broken::wrong_switch_count(rt)?;
+    broken::too_many_commands(rt)?;
+    broken::wrong_mask(rt)?;
+    broken::too_many_states(rt)?;
+    broken::lists_too_long(rt)
 }
 
 fn main(rt: LibcRuntime) -> io::Result<()> {
     walk_the_example(&rt)?;
-    println!(rt, "2. Tables that make no map")?;
-    broken::too_many_looks(&rt)?;
-    broken::wrong_lengths(&rt)?;
-    broken::wrong_first(&rt)?;
-    broken::wrong_target(&rt)
+    println!(rt, "")?;
+    kinds::two_switches(&rt)?;
+    println!(rt, "")?;
+    kinds::joint_of_both(&rt)?;
+    println!(rt, "")?;
+    offer_what_is_broken(&rt)
 }

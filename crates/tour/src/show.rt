@@ -1,7 +1,4 @@
 // What is printed of a map.
-use listed::answers::ListedMapMap;
-use listed::fault::ListedFault;
-use listed::table::ListedMap;
 use look::Look;
 use look::switch::SwitchLook;
 use map::Map;
@@ -23,36 +20,10 @@ pub(crate) fn tables(
     )
 }
 
-// What the refusal says, in words.
-fn reason(fault: ListedFault) -> &'static str {
-    match fault {
-        ListedFault::TooManyLooks => "there are more than 4096 looks",
-        ListedFault::WrongLengths =>
-            "there must be one start byte for each look, and one first more",
-        ListedFault::WrongFirst(_) =>
-            "firsts begin at 0, never fall, and end at the number of targets",
-        ListedFault::WrongTarget(_) => "a target is no state of the map",
-    }
-}
-
-// Whether the map was made, and if not, why.
-pub(crate) fn outcome<L: Look>(rt: &LibcRuntime, map: &ListedMap<'_, L>) -> io::Result<()> {
+// That the map was made, with its size.
+pub(crate) fn made<M: Map>(rt: &LibcRuntime, map: &M) -> io::Result<()> {
     let size = map.size();
-    let Some(fault) = map.fault() else {
-        return println!(rt, "Map made: {size} states.");
-    };
-    let number = fault.number();
-    let why = reason(fault);
-    match fault.entry() {
-        Some(entry) => println!(
-            rt,
-            "Refused, number {number} at entry {entry}: {why}. The map has size {size}."
-        ),
-        None => println!(
-            rt,
-            "Refused, number {number}: {why}. The map has size {size}."
-        ),
-    }
+    println!(rt, "Map made: {size} states.")
 }
 
 // The signs that are on at s, of the first 32.
@@ -109,4 +80,24 @@ pub(crate) fn walk<M: Map>(rt: &LibcRuntime, map: &M, s: u32) -> io::Result<()> 
         }
     }
     println!(rt, ", and so on.")
+}
+
+// A refusal: its number, the entry that it carries, if any, and the size that the map has then.
+pub(crate) fn refusal(
+    rt: &LibcRuntime,
+    number: u8,
+    entry: Option<u32>,
+    why: &str,
+    size: u32,
+) -> io::Result<()> {
+    match entry {
+        Some(i) => println!(
+            rt,
+            "Refused, number {number} at entry {i}: {why}. The map has size {size}."
+        ),
+        None => println!(
+            rt,
+            "Refused, number {number}: {why}. The map has size {size}."
+        ),
+    }
 }

@@ -147,7 +147,11 @@ fn joints_with_a_refused_map() -> Result<(), Fail> {
     let rig = worked_example();
     check(refused().fault().is_some())?;
     check_eq(told(refused(), four(&rig)), (0, 0))?;
-    answers_as_paired(&refused(), &four(&rig), &JointMap::new(refused(), four(&rig)))
+    answers_as_paired(
+        &refused(),
+        &four(&rig),
+        &JointMap::new(refused(), four(&rig)),
+    )
 }
 
 // The number of a joint's refusal, 0 where there is none, and its size.
