@@ -1,23 +1,23 @@
 -- A joint map that is made reaches no cap. Assumes nothing.
-use mathlib.Core.Bool.{Bool, true, cond, _&&_}
-use mathlib.Core.List.{List, []}
+use mathlib.Core.Bool.{cond, _&&_}
+use mathlib.Core.List.{[]}
 use mathlib.Core.Logic.{⊎-elim}
-use mathlib.Core.Path.{_≡_, refl, sym, ap, subst, _∙_}
+use mathlib.Core.Path.{_≡_, sym, ap, subst, _∙_}
 use Prim.Native.Nat.{ℕ, _*_, _/_, _%_, _≤_, _<_}
 use native.Mathlib.Omega.{arith}
 use lib.Dec.{leb, ltb}
 use lib.ListN.{length, take}
 use Rattle.std.proofs.shelf.Bits.{mul-le}
 use Rattle.std.proofs.shelf.Lists.{take-all}
-use Rattle.std.proofs.shelf.Tests.{cond-true, cond-false, leb-true, lt-ltb, le-ltb, cases-lt}
+use Rattle.std.proofs.shelf.Tests.{cond-true, cond-false, leb-true, le-ltb, cases-lt}
 use Rattle.std.specs.declared.option.Option.the-variants.{None}
 use Rattle.map.proofs.Asked.{answered}
 use Rattle.map.proofs.Count.{above, met}
-use Rattle.map.specs.Counts.{longest, greatest}
+use Rattle.map.specs.Counts.{longest}
 use Rattle.map.specs.Meaning.{Meaning, Bounded}
 use Rattle.map.specs.Questions.{first-no}
-use Rattle.joint.specs.Bounds.{Parts, parts}
-use Rattle.joint.specs.Pairs.{paired-start, paired-look, paired-list, joint-size, joint, plain, questions, Uncapped}
+use Rattle.joint.specs.Bounds.{parts}
+use Rattle.joint.specs.Pairs.{paired-start, paired-look, paired-list, joint-size, joint, questions, Uncapped}
 use Rattle.joint.proofs.Lists.{length-pairs}
 
 -- no list is longer than a map may have
@@ -36,7 +36,7 @@ module _ {P Q : Type 0} (a : Meaning P) (b : Meaning Q) where
       let v = above (λ j. length (b .list j)) (b .size) (s % b .size) r in
       omega (arith, length-pairs (b .size) (a .list (s / b .size)) (b .list (s % b .size)), mul-le _ _ _ _ u v)
 
-  -- what both have below a size, and past it
+  -- two maps that are not refused are joined whole
   pub uncapped : first-no (questions a b) ≡ None → Uncapped a b
   uncapped e =
       let all = answered (questions a b) e in
@@ -48,7 +48,6 @@ module _ {P Q : Type 0} (a : Meaning P) (b : Meaning Q) where
         look = λ s. ap (λ n. cond (ltb s n) (paired-look a b s) None) whole;
         list = λ s. ap (λ n. cond (ltb s n) (take 32768 (paired-list a b s)) []) whole ∙ ⊎-elim
             (λ l.
-            let n = joint-size None (a .size) (b .size) in
             let at = parts None (a .size) (b .size) s (subst (λ k. s < k) (sym whole) l) in
             let long = paired-long s (at .left) (at .right) in
             ap (λ xs. cond (ltb s (a .size * b .size)) xs []) (take-all 32768 (paired-list a b s) (omega arith)))

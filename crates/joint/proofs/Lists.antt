@@ -1,5 +1,4 @@
 -- The entries of a joint list. Assumes nothing.
-use mathlib.Core.Bool.{cond}
 use mathlib.Core.List.{List, [], _∷_, _++_, map}
 use mathlib.Core.Logic.{⊎-elim}
 use mathlib.Core.Path.{_≡_, sym, ap, ap₂, subst, _∙_}
@@ -13,10 +12,10 @@ use Rattle.std.proofs.shelf.Lists.{length-take, length-map, length-append, getD
 use Rattle.std.proofs.shelf.Maps.{nth-getD}
 use Rattle.std.proofs.shelf.Tests.{cond-true, cond-false, lt-ltb, le-ltb, cases-lt}
 use Rattle.std.specs.declared.option.Option.{Option}
-use Rattle.std.specs.declared.option.Option.the-variants.{Some, None}
+use Rattle.std.specs.declared.option.Option.the-variants.{Some}
 use Rattle.std.specs.shelf.Maps.{nth}
 use Rattle.map.specs.Meaning.{Meaning, Bounded}
-use Rattle.joint.specs.Bounds.{Parts, parts, right-factor}
+use Rattle.joint.specs.Bounds.{parts, right-factor}
 use Rattle.joint.specs.Pairs.{pairs, paired-list, joint-size, joint}
 use Rattle.joint.specs.declared.fault.JointFault.{JointFault}
 
@@ -42,6 +41,7 @@ getD-pairs n (x ∷ xs) ys (suc i) j h g =
     getD-append-right row (pairs n xs ys) (length ys) (suc i * length ys + j) 0 long (omega (arith, m)) ∙ ap (λ k. getD (pairs n xs ys) k 0) z ∙ getD-pairs n xs ys i j (omega arith) g
 
 module _ {P Q : Type 0} (fault : Option JointFault) (a : Meaning P) (b : Meaning Q) where
+  -- how many states there are
   abbrev size : ℕ
   size = joint-size fault (a .size) (b .size)
 
@@ -73,6 +73,7 @@ module _ {P Q : Type 0} (fault : Option JointFault) (a : Meaning P) (b : Meaning
     pub right-few : getD (b .list (s % n)) (k % w) 0 ≤ 4096
     pub value : nth (joint fault a b .list s) k ≡ Some (getD (a .list (s / n)) (k / w) 0 * n + getD (b .list (s % n)) (k % w) 0)
 
+  -- each entry of a joint list is such a pair
   entry-in : Bounded a → Bounded b → (s k : ℕ) → k < length (joint fault a b .list s) → Entry s k (b .size) (length (b .list (s % b .size)))
   entry-in p q s k h =
       let xs = a .list (s / b .size) in
@@ -105,6 +106,7 @@ module _ {P Q : Type 0} (fault : Option JointFault) (a : Meaning P) (b : Meaning
     pub right-few : j ≤ 4096
     pub value : Some (i * n + j) ≡ nth (joint fault a b .list s) k
 
+  -- entries that were read in both lists make the joint list's entry
   pub reading-at : (s k n w : ℕ) → Entry s k n w → (i j : ℕ) → Some i ≡ nth (a .list (s / n)) (k / w) → Some j ≡ nth (b .list (s % n)) (k % w) → Reading s k n i j
   reading-at s k n w t i j e f =
       let l : i ≡ getD (a .list (s / n)) (k / w) 0 = cc (t .left) in

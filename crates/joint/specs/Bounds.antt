@@ -1,6 +1,6 @@
 -- The joint of two maps keeps to the bounds of all maps. This stands beside the definitions since each joint map
 -- carries it. Assumes nothing.
-use mathlib.Core.Bool.{Bool, true, false, cond}
+use mathlib.Core.Bool.{true, cond}
 use mathlib.Core.List.{List, [], _∷_, _++_, map}
 use mathlib.Core.Logic.{⊎-elim}
 use mathlib.Core.Path.{_≡_, refl, sym, ap, subst, _∙_}
@@ -9,7 +9,6 @@ use native.Mathlib.Nat.{mul-comm, mul-zero}
 use native.Mathlib.Omega.{arith}
 use lib.Dec.{leb, ltb}
 use lib.ListN.{length, take, getD}
-use Rattle.look.specs.declared.joint.JointLook.{JointLook}
 use Rattle.std.proofs.shelf.Bits.{mul-add-lt, div-below, mod-below}
 use Rattle.std.proofs.shelf.Lists.{length-take, length-map, length-append, getD-take, getD-map, getD-append-left, getD-append-right}
 use Rattle.std.proofs.shelf.Tests.{and-parts, leb-true, cond-true, cond-false, lt-ltb, le-ltb, ltb-true, cases-lt, cases-bool}
@@ -50,6 +49,7 @@ pub record Parts (fault : Option JointFault) (m n s : ℕ) : Type 0 where
   pub left : s / n < m
   pub right : s % n < n
 
+-- and so they are for each state that is there
 pub parts : (fault : Option JointFault) (m n s : ℕ) → s < joint-size fault m n → Parts fault m n s
 parts fault m n s h =
     let w = size-whole fault m n s h in
@@ -81,6 +81,7 @@ joined-there (Some x) None p q = q
 joined-there (Some x) (Some y) p q = refl
 
 module _ {P Q : Type 0} (fault : Option JointFault) (a : Meaning P) (b : Meaning Q) where
+  -- how many states there are
   abbrev size : ℕ
   size = joint-size fault (a .size) (b .size)
 
@@ -105,6 +106,7 @@ module _ {P Q : Type 0} (fault : Option JointFault) (a : Meaning P) (b : Meaning
       let at = parts fault (a .size) (b .size) s l in
       joined-there (a .look (s / b .size)) (b .look (s % b .size)) (p .shown _ ∙ lt-ltb _ _ (at .left)) (q .shown _ ∙ lt-ltb _ _ (at .right))
 
+  -- the joint keeps to each bound, where the two maps do
   pub bounded : Bounded a → Bounded b → Bounded (joint fault a b)
   bounded p q = record {
     size-fits = size-few fault (a .size) (b .size);

@@ -2,7 +2,7 @@
 use mathlib.Core.Bool.{Bool, cond, _&&_}
 use mathlib.Core.List.{List, [], _∷_, _++_, map}
 use mathlib.Core.Path.{_≡_}
-use Prim.Native.Nat.{ℕ, _+_, _*_, _/_, _%_}
+use Prim.Native.Nat.{ℕ, _+_, _*_, _/_, _%_, _<_}
 use lib.Dec.{leb, ltb}
 use lib.ListN.{take}
 use Rattle.look.specs.declared.joint.JointLook.{JointLook}
@@ -72,3 +72,9 @@ pub record Uncapped {P Q : Type 0} (a : Meaning P) (b : Meaning Q) : Type 0 wher
   pub start : (s : ℕ) → joint None a b .start s ≡ plain a b .start s
   pub look : (s : ℕ) → joint None a b .look s ≡ plain a b .look s
   pub list : (s : ℕ) → joint None a b .list s ≡ plain a b .list s
+
+-- at the number of each pair of states, the joint has what the two have there
+pub record Numbered {P Q : Type 0} (a : Meaning P) (b : Meaning Q) : Type 0 where
+  pub start : (i j : ℕ) → i < a .size → j < b .size → plain a b .start (i * b .size + j) ≡ (a .start i && b .start j)
+  pub look : (i j : ℕ) → i < a .size → j < b .size → plain a b .look (i * b .size + j) ≡ joined-look (a .look i) (b .look j)
+  pub list : (i j : ℕ) → i < a .size → j < b .size → plain a b .list (i * b .size + j) ≡ pairs (b .size) (a .list i) (b .list j)

@@ -1,6 +1,6 @@
 // Two maps side by side, with what keeps them from being one.
 ghost use mathlib.Core.Path.{_≡_};
-ghost use Rattle.joint.specs.Pairs.{questions, Uncapped};
+ghost use Rattle.joint.specs.Pairs.{questions, Numbered, Uncapped};
 ghost use Rattle.map.specs.Questions.{first-no};
 ghost use Rattle.std.specs.declared.option.Option.the-variants.{None};
 use crate::fault::JointFault;
@@ -35,6 +35,7 @@ impl<A: Map, B: Map> JointMap<A, B> {
         ensures right { λ r. ⌜ r .right ≡ right ⌝ }
         ensures fault { λ r. ⌜ r .fault ≡ first-no (questions (A·Map .meaning left) (B·Map .meaning right)) ⌝ }
         ensures uncapped { λ r. ⌜ (r .fault ≡ None → Uncapped (A·Map .meaning left) (B·Map .meaning right)) ⌝ }
+        ensures numbered { λ _. ⌜ Numbered (A·Map .meaning left) (B·Map .meaning right) ⌝ }
     {
         let fault = pair_fault(&left, &right);
         JointMap { left, right, fault }
