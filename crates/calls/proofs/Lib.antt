@@ -1,0 +1,6 @@
+pub mod Unique
+pub mod Questions
+pub mod Carried
+pub mod Itself
+pub mod Keeping
+pub mod OneMap

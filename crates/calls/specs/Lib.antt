@@ -1,0 +1,6 @@
+pub mod Faults
+pub mod Answers
+pub mod Effects
+pub mod Histories
+pub mod Claims
+pub mod Alike
