@@ -13,16 +13,16 @@ use Rattle.lengths.specs.Rounds.{Known}
 
 module _ {k : Structure} {A B : ℕ → Type 0} where
   -- an entry d is the length d, in any round from d on
-  pub entry-length : (d e s w : ℕ) → d < 4294967295 → Known k A B e s w → w ≡ d → Length k A B s d
-  entry-length d e s w h (inl x) q = subst (Length k A B s) q (x .1)
-  entry-length d e s w h (inr x) q = absurd (omega (arith, x .0))
+  pub known-length : (d e s w : ℕ) → d < 4294967295 → Known k A B e s w → w ≡ d → Length k A B s d
+  known-length d e s w h (inl x) q = subst (Length k A B s) q (x .1)
+  known-length d e s w h (inr x) q = absurd (omega (arith, x .0))
 
   -- and the length d is an entry d
-  pub length-entry : (d e s w : ℕ) → d ≤ e → Known k A B e s w → Length k A B s d → w ≡ d
-  length-entry d e s w h (inl x) l = one-length k A B s w d (x .1) l
-  length-entry d e s w h (inr x) l = absurd (omega (arith, l .2, x .1 (l .0) (l .1 .reaches)))
+  pub length-known : (d e s w : ℕ) → d ≤ e → Known k A B e s w → Length k A B s d → w ≡ d
+  length-known d e s w h (inl x) l = one-length k A B s w d (x .1) l
+  length-known d e s w h (inr x) l = absurd (omega (arith, l .2, x .1 (l .0) (l .1 .reaches)))
 
-  -- round 0
+  -- round 0 at a state in B
   pub round-zero-on : (s : ℕ) → B s → Known k A B 0 s 0
   round-zero-on s b = inl (omega arith, length-zero k A B s b)
 
@@ -31,6 +31,7 @@ module _ {k : Structure} {A B : ℕ → Type 0} where
   zero-off s n [] r = absurd (n (r .ends))
   zero-off s n (t ∷ rest) r = omega arith
 
+  -- and at one that is not
   pub round-zero-off : (s : ℕ) → (B s → ⊥) → Known k A B 0 s 4294967295
   round-zero-off s n = inr (refl, zero-off s n)
 

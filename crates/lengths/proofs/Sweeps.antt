@@ -12,20 +12,24 @@ use Rattle.stl.specs.Structures.{Structure, WellFormed}
 use Rattle.stl.specs.Until.{Reaches, Length}
 use Rattle.stl.proofs.Shortest.{least-length}
 use Rattle.lengths.specs.Rounds.{Known, Round, StepsTo, Due, Swept}
-use Rattle.lengths.proofs.Known.{entry-length, length-entry, next-length, still-longer}
+use Rattle.lengths.proofs.Known.{known-length, length-known, next-length, still-longer}
 
 module _ {k : Structure} {A B : ℕ → Type 0} where
-  -- what the step test reads in a table that is partly of round d + 1
+  -- the table is partly of round d + 1, partly of round d: in both parts an entry d says the same
   module _ (formed : WellFormed k) {d i : ℕ} {before work : List ℕ} {found : Bool} (small : d + 1 < 4294967295) (sweep : Swept k A B d i before work found) where
+    -- the entry is one of round d + 1 or one of round d
     either : (t : ℕ) → t < k .size → Known k A B (d + 1) t (getD work t 0) ⊎ Known k A B d t (getD work t 0)
     either t h = ⊎-elim (λ l. inl (sweep .done t l h)) (λ l. inr (sweep .todo t l h)) (cases-lt t i)
 
-    pub reads : (t : ℕ) → t < k .size → getD work t 0 ≡ d → Length k A B t d
-    reads t h e = ⊎-elim (λ x. entry-length d (d + 1) t _ (omega arith) x e) (λ x. entry-length d d t _ (omega arith) x e) (either t h)
+    -- an entry d is the length d
+    reads : (t : ℕ) → t < k .size → getD work t 0 ≡ d → Length k A B t d
+    reads t h e = ⊎-elim (λ x. known-length d (d + 1) t _ (omega arith) x e) (λ x. known-length d d t _ (omega arith) x e) (either t h)
 
-    pub shows : (t : ℕ) → t < k .size → Length k A B t d → getD work t 0 ≡ d
-    shows t h l = ⊎-elim (λ x. length-entry d (d + 1) t _ (omega arith) x l) (λ x. length-entry d d t _ (omega arith) x l) (either t h)
+    -- and the length d is an entry d
+    shows : (t : ℕ) → t < k .size → Length k A B t d → getD work t 0 ≡ d
+    shows t h l = ⊎-elim (λ x. length-known d (d + 1) t _ (omega arith) x l) (λ x. length-known d d t _ (omega arith) x l) (either t h)
 
+    -- a length up to d, or only longer runs
     from-known : (e t w : ℕ) → d ≤ e → Known k A B e t w → ((n : ℕ) × (n ≤ d) × Length k A B t n) ⊎ ((rest : List ℕ) → Reaches k A B t rest → d < length rest)
     from-known e t w h (inl x) =
         ⊎-elim (λ l. inr (λ rest r. omega (arith, least-length k A B t w rest (x .1) r))) (λ l. inl (w, l, x .1)) (cases-lt d w)
@@ -34,6 +38,7 @@ module _ {k : Structure} {A B : ℕ → Type 0} where
     each : (t : ℕ) → t < k .size → ((n : ℕ) × (n ≤ d) × Length k A B t n) ⊎ ((rest : List ℕ) → Reaches k A B t rest → d < length rest)
     each t h = ⊎-elim (λ x. from-known (d + 1) t _ (omega arith) x) (λ x. from-known d t _ (omega arith) x) (either t h)
 
+    -- a state that is not due, one round on
     one-more : i < k .size → (w : ℕ) → Known k A B d i w → w ≡ getD work i 0 → (Due k A work d i → ⊥) → Known k A B (d + 1) i w
     one-more h w (inl x) e off = inl (omega (arith, x .0), x .1)
     one-more h w (inr x) e off = inr (x .0, still-longer formed d i h (x .1) (λ a t m l. off (sym e ∙ x .0, a, (t, m, shows t (formed .targets i t h m) l))) each)
@@ -58,6 +63,7 @@ module _ {k : Structure} {A B : ℕ → Type 0} where
       new w (inl x) e = omega (arith, x .0)
       new w (inr x) e = omega (arith, x .0)
 
+    -- a state that is due has the length d + 1
     due-length : i < k .size → (w : ℕ) → Known k A B d i w → w ≡ 4294967295 → A i → StepsTo k work d i → Length k A B i (d + 1)
     due-length h w (inl x) e a st = absurd (omega (arith, x .0))
     due-length h w (inr x) e a st = next-length d i (st .0) (x .1) a (st .1) (reads (st .0) (formed .targets i (st .0) h (st .1)) (st .2))
