@@ -8,7 +8,7 @@ use lib.ListN.{length, getD}
 use Rattle.std.proofs.shelf.Tests.{cases-lt}
 use Rattle.stl.specs.Runs.{Run}
 use Rattle.stl.specs.Structures.{Structure, Move, WellFormed}
-use Rattle.stl.specs.Until.{Reaches, Shortest, Length}
+use Rattle.stl.specs.Until.{Reaches, Shortest, Length, Greatest}
 use Rattle.stl.proofs.Pigeons.{pigeons}
 
 module _ (k : Structure) (A B : ℕ → Type 0) where
@@ -44,7 +44,7 @@ module _ (k : Structure) (A B : ℕ → Type 0) where
   pub least-length : (s n : ℕ) (o : List ℕ) → Length k A B s n → Reaches k A B s o → n ≤ length o
   least-length s n o x r = omega (arith, x .2, x .1 .least o r)
 
-  -- a state of length 0 is in B
+  -- a state in B has the length 0
   pub length-zero : (s : ℕ) → B s → Length k A B s 0
   length-zero s b = ([], record { reaches = at-once s b; least = λ o r. omega arith }, refl)
 
@@ -53,7 +53,7 @@ module _ (k : Structure) (A B : ℕ → Type 0) where
   in-A s n x h = ⊎-elim (λ a. a) (λ b. absurd (omega (arith, least-length s n [] x (at-once s b)))) (first s (x .0) (x .1 .reaches))
 
   -- the states of a shortest run have the lengths down to 0
-  pub falling : (s : ℕ) (rest : List ℕ) → Shortest k A B s rest → (i : ℕ) → i ≤ length rest → Length k A B (getD (s ∷ rest) i 0) (length rest - i)
+  falling : (s : ℕ) (rest : List ℕ) → Shortest k A B s rest → (i : ℕ) → i ≤ length rest → Length k A B (getD (s ∷ rest) i 0) (length rest - i)
   falling s [] p zero h = ([], p, refl)
   falling s [] p (suc i) h = absurd (omega arith)
   falling s (t ∷ rest) p zero h = (t ∷ rest, p, omega arith)
@@ -61,22 +61,27 @@ module _ (k : Structure) (A B : ℕ → Type 0) where
       let l : length rest - i ≡ suc (length rest) - suc i = omega arith in
       subst (λ n. Length k A B (getD (t ∷ rest) i 0) n) l (falling t rest (rest-shortest s t rest p) i (omega arith))
 
+  -- the states of a run are states of the structure
   states : WellFormed k → (s : ℕ) (rest : List ℕ) → s < k .size → Run k s rest → (i : ℕ) → i ≤ length rest → getD (s ∷ rest) i 0 < k .size
-  states well s rest b r zero h = b
-  states well s [] b r (suc i) h = absurd (omega arith)
-  states well s (t ∷ rest) b r (suc i) h = states well t rest (well .targets s t b (r .0)) (r .1) i (omega arith)
+  states formed s rest b r zero h = b
+  states formed s [] b r (suc i) h = absurd (omega arith)
+  states formed s (t ∷ rest) b r (suc i) h = states formed t rest (formed .targets s t b (r .0)) (r .1) i (omega arith)
 
   -- a shortest run meets no state twice, so it has fewer moves than there are states
   pub below-size : WellFormed k → (s n : ℕ) → s < k .size → Length k A B s n → n < k .size
-  below-size well s n b x =
+  below-size formed s n b x =
       let rest = x .0 in
       let f : ℕ → ℕ = λ i. getD (s ∷ rest) i 0 in
       ⊎-elim (λ l. l)
       (λ l. absurd (pigeons (k .size) f
-      (λ i h. states well s rest b (x .1 .reaches .run) i (omega (arith, x .2)))
+      (λ i h. states formed s rest b (x .1 .reaches .run) i (omega (arith, x .2)))
       (λ i j h m e.
       let p = falling s rest (x .1) i (omega (arith, x .2)) in
       let q = falling s rest (x .1) j (omega (arith, x .2)) in
       let same = one-length (f j) (length rest - i) (length rest - j) (subst (λ t. Length k A B t (length rest - i)) e p) q in
       omega (arith, x .2, same))))
       (cases-lt n (k .size))
+
+  -- the greatest of the shortest lengths is below the number of states
+  pub greatest-below : WellFormed k → (n : ℕ) → Greatest k A B n → 0 < k .size → n < k .size
+  greatest-below formed n p z = ⊎-elim (λ h. let x = p .met h in below-size formed (x .0) n (x .1) (x .2)) (λ h. omega arith) (cases-lt 0 n)
