@@ -4,3 +4,4 @@ pub mod Carried
 pub mod Itself
 pub mod Keeping
 pub mod OneMap
+pub mod Given

@@ -1,5 +1,5 @@
 -- What a call does to the tables that are lent to it. Assumes nothing.
-use mathlib.Core.List.{List}
+use mathlib.Core.List.{List, []}
 use mathlib.Core.Path.{_≡_}
 use Prim.Native.Nat.{ℕ}
 use lib.ListN.{length}
@@ -23,6 +23,14 @@ pub record Tables : Type 0 where
   pub work : List ℕ
   pub run : List ℕ
 
+abbrev pub tables : List ℕ → List ℕ → List ℕ → Tables
+tables ss ws rs = record { sheet = ss; work = ws; run = rs }
+
+-- a call that is lent its sheet alone
+abbrev pub alone : List ℕ → Tables
+alone sheet = tables sheet [] []
+
+-- how long they are
 abbrev pub lent : Tables → Lent
 lent t = record { sheet = length (t .sheet); work = length (t .work); run = length (t .run) }
 
