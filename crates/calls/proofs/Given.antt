@@ -7,7 +7,7 @@ use Prim.Native.Nat.{ℕ, _+_, _<_, _≤_}
 use native.Mathlib.Omega.{arith}
 use lib.Dec.{leb, ltb}
 use lib.ListN.{length}
-use Rattle.std.proofs.shelf.Tests.{lt-ltb, le-leb, lt-leb}
+use Rattle.std.proofs.shelf.Tests.{lt-ltb, le-ltb, le-leb, lt-leb}
 use Rattle.std.specs.declared.option.Option.{Option}
 use Rattle.std.specs.declared.option.Option.the-variants.{Some, None}
 use Rattle.lengths.specs.Sheets.{by-sheet, Labelled}
@@ -25,7 +25,7 @@ use Rattle.calls.specs.declared.call.Answer.the-variants as answer
 use Rattle.calls.specs.declared.call.Call.{Call}
 use Rattle.calls.specs.declared.call.Call.the-variants as call
 use Rattle.calls.specs.declared.fault.SessionFault.{SessionFault}
-use Rattle.calls.specs.declared.fault.SessionFault.the-variants.{ShortSheet, NoSuchState, NotMarked, NotUntil, ShortWork}
+use Rattle.calls.specs.declared.fault.SessionFault.the-variants.{ShortSheet, NothingToMark, NoSuchState, NotMarked, NotUntil, ShortWork}
 
 module _ {k : Structure} {st : State} {t : Tables} where
   pub granted : {c : Call} {a : Answer} {after : State} {u : Tables} → first-no (questions k st (lent t) c) ≡ None → Grants k (by-sheet (t .sheet)) st (lent t) c a after → Writes k st t c a u → Gives k st t c a after u
@@ -59,6 +59,9 @@ module _ {k : Structure} {st : State} {t : Tables} where
       granted
       (passes (questions k st (lent t) (call.Verdict r)) (le-leb _ _ h, (lt-ltb _ _ j, tt)))
       (verdict r b e) refl
+
+  pub mark-refused : k .size ≤ length (t .sheet) → length (st .rows) ≤ st .marked → Gives k st t call.Mark (answer.Refused NothingToMark) st t
+  mark-refused h i = refused (stops (ask (leb (k .size) (length (t .sheet))) ShortSheet ∷ []) (ltb (st .marked) (length (st .rows))) NothingToMark [] (le-leb _ _ h, tt) (le-ltb _ _ i))
 
   pub mark-given : {row : Row} {n : ℕ} {sheet : List ℕ} → k .size ≤ length (t .sheet) → st .marked < length (st .rows) → row-at (st .rows) (st .marked) ≡ row → Labelled k (t .sheet) (st .marked) row (k .size) sheet → Reach k (by-sheet (t .sheet)) row n → Gives k st t call.Mark (answer.Marked (st .marked) n) (record { rows = st .rows; marked = st .marked + 1 }) (record { sheet = sheet; work = t .work; run = t .run })
   mark-given {n = n} {sheet = sheet} h i e p q =

@@ -5,3 +5,4 @@ pub mod Itself
 pub mod Keeping
 pub mod OneMap
 pub mod Given
+pub mod Clearing

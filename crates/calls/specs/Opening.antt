@@ -22,14 +22,14 @@ fresh = record { rows = []; marked = 0 }
 abbrev pub open-questions : Structure → ℕ → List (Question SessionFault)
 open-questions k words = ask (ltb 0 (k .size)) NoState ∷ (ask (leb (k .size) words) ShortSheet ∷ [])
 
--- the first words are 0, one for each state; the others are as they were
-pub record Cleared (k : Structure) (n : ℕ) (before after : List ℕ) : Type 0 where
+-- the first n words are 0; the others are as they were
+pub record Cleared (n : ℕ) (before after : List ℕ) : Type 0 where
   pub sized : length after ≡ length before
   pub here : (s : ℕ) → s < n → getD after s 0 ≡ 0
   pub past : (s : ℕ) → n ≤ s → getD after s 0 ≡ getD before s 0
 
 abbrev pub OpenDecided : Structure → List ℕ → Result State SessionFault → List ℕ → Option SessionFault → Type 0
-OpenDecided k before r after None = (r ≡ Ok fresh) × Cleared k (k .size) before after
+OpenDecided k before r after None = (r ≡ Ok fresh) × Cleared (k .size) before after
 OpenDecided k before r after (Some f) = (r ≡ Err f) × (after ≡ before)
 
 -- what opening gives, and what the sheet holds after
