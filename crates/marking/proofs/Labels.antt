@@ -45,10 +45,6 @@ module _ (k : Structure) (x y : List ℕ) (r : ℕ) (same : (q s : ℕ) → (q �
   timed-same (Next a) work h = refl
   timed-same (Until a b) work h = let p = and-parts (ltb a r) (ltb b r) h in ap₂ (λ P Q. (s : ℕ) → s < k .size → Measured k P Q s (getD work s 0)) (row-same a (p .0)) (row-same b (p .1))
 
--- nothing is labelled yet
-pub labelled-none : (k : Structure) (sheet : List ℕ) (r : ℕ) (row : Row) → Labelled k sheet r row 0 sheet
-labelled-none k sheet r row = record { sized = refl; here = λ s h. absurd (omega arith); other = λ q s h. refl; past = λ s h. refl }
-
 -- one state more
 module _ {k : Structure} {before : List ℕ} {r : ℕ} {row : Row} {n : ℕ} {sheet : List ℕ} (w : ℕ) {b : Bool} (p : Labelled k before r row n sheet) (l : n < length sheet) (h : named row r ≡ true) (is : (b ≡ true) ⇔ Satisfied k (by-sheet sheet) row n) (bits : (j : ℕ) → bit-on w j ≡ cond (eqb j r) b (bit-on (getD sheet n 0) j)) where
   word : getD (set sheet n w) n 0 ≡ w
