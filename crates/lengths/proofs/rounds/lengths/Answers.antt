@@ -1,8 +1,8 @@
 use Prim.Native.Nat.{_+_, _≤_}
 use native.Mathlib.Omega.{arith}
 use Rattle.map.proofs.Moves.{well-formed}
-use Rattle.lengths.proofs.Filling.{running-none, running-more, running-small, running-filled, running-greatest}
 use Rattle.stl.proofs.Shortest.{greatest-below}
+use Rattle.lengths.proofs.Filling.{running-none, running-more, running-small, running-filled, running-greatest}
 use Rattle.lengths.proofs.rounds.lengths.Needs as need
 
 pub loop-d-holds : need.loop-d-holds
