@@ -22,11 +22,7 @@ pub record Running (k : Structure) (A B : ℕ → Type 0) (d : ℕ) (before work
   pub met : 0 < d → (s : ℕ) × (s < k .size) × Length k A B s d
 
 module _ {k : Structure} {A B : ℕ → Type 0} where
-  -- round 0 begins
-  pub begun-none : {work : List ℕ} → Begun k A B 0 work work
-  begun-none = record { sized = refl; done = λ s l. absurd (omega arith); past = λ s l. refl }
-
-  -- one state more
+  -- round 0 at one state more
   pub begun-more : {i w : ℕ} {before work : List ℕ} → Begun k A B i before work → i < length work → Known k A B 0 i w → Begun k A B (i + 1) before (set work i w)
   begun-more {i = i} {w = w} {work = work} p h x =
       record {
@@ -45,6 +41,7 @@ module _ {k : Structure} {A B : ℕ → Type 0} where
     at-most s w ne (inl x) = inl (⊎-elim (λ e. absurd (ne e)) (λ (q : w ≡ d + 1 → ⊥). omega (arith, x .0)) (cases-eq w (d + 1)), x .1)
     at-most s w ne (inr x) = inr x
 
+    -- the entry of a state: its length, up to d, or none
     settled : (s : ℕ) → s < k .size → ((getD work s 0 ≤ d) × Length k A B s (getD work s 0)) ⊎ ((getD work s 0 ≡ 4294967295) × ((rest : List ℕ) → Reaches k A B s rest → d + 1 < length rest))
     settled s h = at-most s _ (sweep .none refl s h h) (sweep .done s h h)
 
@@ -59,12 +56,14 @@ module _ {k : Structure} {A B : ℕ → Type 0} where
         (λ x. absurd (omega (arith, l .1, l .2 .2, x .1 (t ∷ l .2 .0) (move-first k A B s t (l .2 .0) (r .keeps .0) m (l .2 .1 .reaches)))))
         (settled s h)
 
+    -- so the entry measures the state
     measured : (s : ℕ) → s < k .size → Measured k A B s (getD work s 0)
     measured s h = ⊎-elim
         (λ x. inr (x .1))
         (λ x. inl (x .0, λ rest r. let l = has-length s rest h r in omega (arith, l .1, l .2 .2, x .1 (l .2 .0) (l .2 .1 .reaches))))
         (settled s h)
 
+    -- and d is the greatest length
     greatest : (0 < d → (s : ℕ) × (s < k .size) × Length k A B s d) → Greatest k A B d
     greatest met = record {
       above = λ s m h x. let l = has-length s (x .0) h (x .1 .reaches) in omega (arith, l .1, one-length k A B s (l .0) m (l .2) x);
@@ -84,15 +83,10 @@ module _ {k : Structure} {A B : ℕ → Type 0} where
     met = λ h. q .some refl;
   }
 
-  -- as many rounds give a length as there are states, at most
+  -- no more rounds give a length than there are states
   pub running-small : WellFormed k → {d : ℕ} {before work : List ℕ} → Running k A B d before work → d ≤ k .size
   running-small formed {d = d} p =
       ⊎-elim (λ h. let x = p .met h in omega (arith, below-size k A B formed (x .0) d (x .1) (x .2))) (λ h. omega arith) (cases-lt 0 d)
-
-  -- fewer, where there is a state
-  pub running-below : WellFormed k → {d : ℕ} {before work : List ℕ} → Running k A B d before work → 0 < k .size → d < k .size
-  running-below formed {d = d} p z =
-      ⊎-elim (λ h. let x = p .met h in below-size k A B formed (x .0) d (x .1) (x .2)) (λ h. omega arith) (cases-lt 0 d)
 
   -- after a round that gave nothing the table is filled
   pub running-filled : WellFormed k → {d : ℕ} {first before work next : List ℕ} → Begun k A B (k .size) first before → Running k A B d before work → Swept k A B d (k .size) work next false → Filled k A B first next

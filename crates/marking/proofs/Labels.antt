@@ -45,12 +45,9 @@ module _ (k : Structure) (x y : List ℕ) (r : ℕ) (same : (q s : ℕ) → (q �
   timed-same (Next a) work h = refl
   timed-same (Until a b) work h = let p = and-parts (ltb a r) (ltb b r) h in ap₂ (λ P Q. (s : ℕ) → s < k .size → Measured k P Q s (getD work s 0)) (row-same a (p .0)) (row-same b (p .1))
 
--- nothing is labelled yet
-pub labelled-none : (k : Structure) (sheet : List ℕ) (r : ℕ) (row : Row) → Labelled k sheet r row 0 sheet
-labelled-none k sheet r row = record { sized = refl; here = λ s h. absurd (omega arith); other = λ q s h. refl; past = λ s h. refl }
-
 -- one state more
 module _ {k : Structure} {before : List ℕ} {r : ℕ} {row : Row} {n : ℕ} {sheet : List ℕ} (w : ℕ) {b : Bool} (p : Labelled k before r row n sheet) (l : n < length sheet) (h : named row r ≡ true) (is : (b ≡ true) ⇔ Satisfied k (by-sheet sheet) row n) (bits : (j : ℕ) → bit-on w j ≡ cond (eqb j r) b (bit-on (getD sheet n 0) j)) where
+  -- the new word stands there
   word : getD (set sheet n w) n 0 ≡ w
   word = getD-set-same sheet n w 0 l
 
@@ -72,6 +69,7 @@ module _ {k : Structure} {before : List ℕ} {r : ℕ} {row : Row} {n : ℕ} {sh
   old : (q s : ℕ) → (s ≡ n → ⊥) → label-of (set sheet n w) q s ≡ label-of sheet q s
   old q s ne = ap (λ x. bit-on x q) (getD-set-other sheet n s w 0 ne)
 
+  -- so row r has its label there too
   pub labelled-more : Labelled k before r row (n + 1) (set sheet n w)
   labelled-more = record {
     sized = length-set sheet n w ∙ p .sized;
@@ -82,7 +80,7 @@ module _ {k : Structure} {before : List ℕ} {r : ℕ} {row : Row} {n : ℕ} {sh
         (cases-eq s n);
     other = λ q s ne. ⊎-elim
         (λ e. subst (λ t. label-of (set sheet n w) q t ≡ label-of before q t) (sym e) (ap (λ x. bit-on x q) word ∙ bit-other q ne ∙ p .other q n ne))
-        (λ no′. old q s no′ ∙ p .other q s ne)
+        (λ apart. old q s apart ∙ p .other q s ne)
         (cases-eq s n);
     past = λ s m. getD-set-other sheet n s w 0 (λ e. omega arith) ∙ p .past s (omega arith);
   }

@@ -1,7 +1,8 @@
-use Prim.Native.Nat.{_+_, _<_, _≤_}
+use Prim.Native.Nat.{_+_, _≤_}
 use native.Mathlib.Omega.{arith}
 use Rattle.map.proofs.Moves.{well-formed}
-use Rattle.lengths.proofs.Filling.{running-none, running-more, running-small, running-below, running-filled, running-greatest}
+use Rattle.stl.proofs.Shortest.{greatest-below}
+use Rattle.lengths.proofs.Filling.{running-none, running-more, running-small, running-filled, running-greatest}
 use Rattle.lengths.proofs.rounds.lengths.Needs as need
 
 pub loop-d-holds : need.loop-d-holds
@@ -33,8 +34,9 @@ pub returns : need.returns
 returns g c =
     let shut = well-formed (g .L·Look .sign) _ (g .M·Map .bounded (c .args .map .now)) in
     let swept = c .loop-d-test .ensures tt in
+    let most = running-greatest shut (c .loop-d .inv) swept in
     record {
       filled = running-filled shut (c .first-round .ensures) (c .loop-d .inv) swept;
-      greatest = running-greatest shut (c .loop-d .inv) swept;
-      below = running-below shut (c .loop-d .inv);
+      greatest = most;
+      below = greatest-below _ _ _ shut _ most;
     }

@@ -1,14 +1,12 @@
-use mathlib.Core.Path.{_≡_, sym, ap, subst, _∙_}
+use mathlib.Core.Path.{_≡_, subst}
 use Prim.Native.Nat.{_+_, _-_, _<_}
 use native.Mathlib.Omega.{arith}
 use lib.ListN.{length, getD, set}
-use borrow.Author.Needs.{needs}
 use Rattle.std.proofs.shelf.Lists.{length-set}
 use Rattle.std.proofs.shelf.Tests.{some-since}
 use Rattle.std.specs.Options.{Cases}
 use Rattle.std.specs.declared.option.Option.{Option}
 use Rattle.std.specs.declared.option.Option.the-variants.{Some}
-use Rattle.map.specs.Meaning.{structure}
 use Rattle.map.proofs.Moves.{well-formed}
 use Rattle.lengths.proofs.Drawn.{drawing-none, drawing-more, drawing-all}
 use Rattle.lengths.proofs.runs.write_run.Needs as need

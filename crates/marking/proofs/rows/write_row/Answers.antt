@@ -1,10 +1,10 @@
-use mathlib.Core.Path.{_≡_, sym, subst}
+use mathlib.Core.Path.{sym, subst}
 use Prim.Native.Nat.{_<_}
 use native.Mathlib.Omega.{arith}
 use lib.ListN.{length}
 use Rattle.map.specs.Meaning.{structure}
-use Rattle.marking.proofs.Labels.{timed-same, labelled-more}
 use Rattle.stl.proofs.Rows.{named-more}
+use Rattle.marking.proofs.Labels.{timed-same, labelled-more}
 use Rattle.marking.proofs.rows.write_row.Needs as need
 
 pub satisfied-b-requires : need.satisfied-b-requires
