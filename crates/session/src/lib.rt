@@ -3,3 +3,4 @@ pub mod ask;
 pub mod held;
 pub mod open;
 pub mod rows;
+pub mod witness;
