@@ -139,3 +139,7 @@ module _ (k : Structure) (st : State) (sheet sheets work run : List ℕ) where
         answers = subst (Decided k (by-sheet sheet) st (lent (tables sheet work run)) c a after) same (decided-beside c a after (first-no (questions k st (lent (alone sheet)) c)) h (g .answers));
         leaves = subst (Leaves k st (tables sheet work run) c a (tables sheets work run)) same (left-beside c a (first-no (questions k st (lent (alone sheet)) c)) h (g .leaves));
       }
+
+-- the same call under another name
+pub asked-as : {k : Structure} {st after : State} {t u : Tables} {c d : Call} {a : Answer} → d ≡ c → Gives k st t c a after u → Gives k st t d a after u
+asked-as {k} {st} {after} {t} {u} {c} {d} {a} e g = subst (λ x. Gives k st t x a after u) (sym e) g

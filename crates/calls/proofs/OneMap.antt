@@ -14,7 +14,7 @@ use Rattle.stl.specs.Rows.{row-at, ForUntil, by-logic}
 use Rattle.stl.specs.Structures.{Structure, WellFormed}
 use Rattle.stl.specs.Until.{Shortest}
 use Rattle.calls.specs.Answers.{State, questions, Decided, Answers}
-use Rattle.calls.specs.Claims.{OneMap}
+use Rattle.calls.specs.Claims.{OneMap, AfterAnyCalls}
 use Rattle.calls.specs.Effects.{Tables, lent, Sought, Leaves}
 use Rattle.calls.specs.Histories.{Moment, Gave, History, opened, called, short, Kept, Each, Right}
 use Rattle.calls.specs.declared.call.Answer.{Answer}
@@ -108,3 +108,13 @@ module _ (k : Structure) (well : WellFormed k) where
 -- over every structure and history
 pub one-map : OneMap
 one-map k well st sheet past h = all-right k well h
+
+-- a call after any list of calls
+pub after-any : (k : Structure) → WellFormed k → (m : Moment) → Gave k m → AfterAnyCalls k m
+after-any k well m g past h =
+    let so = all-right k well h in
+    record {
+      right = right k well m (so .1) g;
+      kept = kept-after k well (m .before) (m .given) (so .1) (m .asked) (m .said) (m .after) (m .left) g;
+      history = called h m refl refl g;
+    }

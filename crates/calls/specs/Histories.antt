@@ -5,6 +5,8 @@ use mathlib.Core.Path.{_≡_}
 use Prim.Native.Nat.{ℕ, _+_, _<_, _≤_}
 use lib.ListN.{length, getD, take}
 use Rattle.std.specs.declared.option.Option.the-variants.{None}
+use Rattle.std.specs.declared.result.Result.{Result}
+use Rattle.std.specs.declared.result.Result.the-variants.{Ok, Err}
 use Rattle.lengths.specs.Sheets.{label-of, by-sheet}
 use Rattle.lengths.specs.Tables.{Filled}
 use Rattle.map.specs.Questions.{first-no}
@@ -18,6 +20,7 @@ use Rattle.calls.specs.declared.call.Answer.{Answer}
 use Rattle.calls.specs.declared.call.Answer.the-variants as answer
 use Rattle.calls.specs.declared.call.Call.{Call}
 use Rattle.calls.specs.declared.call.Call.the-variants as call
+use Rattle.calls.specs.declared.fault.SessionFault.{SessionFault}
 
 -- one call: what the session keeps and the tables, before and after
 pub record Moment : Type 0 where
@@ -74,3 +77,8 @@ pub record Right (k : Structure) (m : Moment) : Type 0 where
   pub logic : LogicAnswers k (m .before) (lent (m .given)) (m .asked) (m .said) (m .after)
   pub run : Shows k m (m .asked) (m .said)
   pub work : Fills k m (m .asked)
+
+-- a session that was opened begins a history
+abbrev pub Begins : Structure → Result State SessionFault → List ℕ → Type 0
+Begins k (Ok st) sheet = History k st sheet []
+Begins k (Err f) sheet = Unit {0}

@@ -38,7 +38,10 @@ impl RuleList {
     pub fn new() -> RuleList
         ensures { λ r. ⌜ take (r .len) (r .rows) ≡ [] ⌝ }
     {
-        RuleList { rows: [Row::True; 64], len: 0 }
+        RuleList {
+            rows: [Row::True; 64],
+            len: 0,
+        }
     }
 
     // How many rows there are.
@@ -52,7 +55,11 @@ impl RuleList {
     pub fn row(&self, r: u32) -> Option<Row>
         ensures { λ x. ⌜ x ≡ nth (take (now (self .entry) .len) (now (self .entry) .rows)) r ⌝ }
     {
-        if r < self.len { Some(self.rows[r as usize]) } else { None }
+        if r < self.len {
+            Some(self.rows[r as usize])
+        } else {
+            None
+        }
     }
 
     // One row more, or a refusal that leaves the list as it was.

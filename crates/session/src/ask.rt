@@ -32,7 +32,13 @@ fn all_starts<M: Map>(map: &M, sheet: &[u64], r: u32) -> bool
 
 impl Session {
     // The label of row r at state s.
-    pub fn label<M: Map>(&self, map: &M, sheet: &[u64], s: u32, r: u32) -> Result<bool, SessionFault>
+    pub fn label<M: Map>(
+        &self,
+        map: &M,
+        sheet: &[u64],
+        s: u32,
+        r: u32,
+    ) -> Result<bool, SessionFault>
         ensures { λ x. ⌜ Gives (structure (L·Look .sign) (meaning (now (map .entry)))) (state (now (self .entry))) (alone (now (sheet .entry))) (call.Label s r) (answered answer.Label x) (state (now (self .entry))) (alone (now (sheet .entry))) ⌝ }
     {
         let n = map.size();

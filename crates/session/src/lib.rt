@@ -2,5 +2,6 @@
 pub mod ask;
 pub mod held;
 pub mod open;
+pub mod perform;
 pub mod rows;
 pub mod witness;

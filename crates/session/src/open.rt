@@ -2,6 +2,7 @@
 ghost use mathlib.Core.Path.{_≡_};
 ghost use Prim.Native.Nat.{_≤_};
 ghost use lib.ListN.{length};
+ghost use Rattle.calls.specs.Histories.{Begins};
 ghost use Rattle.calls.specs.Opening.{Cleared, Opens};
 ghost use Rattle.map.specs.Meaning.{structure};
 ghost use Rattle.session.specs.Sessions.{kept};
@@ -24,7 +25,8 @@ fn clear<M: Map>(map: &M, sheet: &mut [u64])
 impl Session {
     // A session without rows on the map, and a sheet without labels.
     pub fn open<M: Map>(map: &M, sheet: &mut [u64]) -> Result<Session, SessionFault>
-        ensures { λ r. ⌜ Opens (structure (L·Look .sign) (meaning (now (map .entry)))) (now (sheet .entry)) (kept r) (now (sheet .exit)) ⌝ }
+        ensures opens { λ r. ⌜ Opens (structure (L·Look .sign) (meaning (now (map .entry)))) (now (sheet .entry)) (kept r) (now (sheet .exit)) ⌝ }
+        ensures begins { λ r. ⌜ Begins (structure (L·Look .sign) (meaning (now (map .entry)))) (kept r) (now (sheet .exit)) ⌝ }
     {
         if map.size() == 0 {
             return Err(SessionFault::NoState);
@@ -33,6 +35,9 @@ impl Session {
             return Err(SessionFault::ShortSheet);
         }
         clear(map, sheet);
-        Ok(Session { rules: RuleList::new(), marked: 0 })
+        Ok(Session {
+            rules: RuleList::new(),
+            marked: 0,
+        })
     }
 }

@@ -31,7 +31,10 @@ impl Session {
         let mut rules = self.rules;
         match rules.add(row) {
             Ok(r) => {
-                *self = Session { rules, marked: self.marked };
+                *self = Session {
+                    rules,
+                    marked: self.marked,
+                };
                 Ok(r)
             }
             Err(RuleFault::TooManyRows) => Err(SessionFault::TooManyRows),
