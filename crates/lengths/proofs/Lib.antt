@@ -1,0 +1,6 @@
+mod Words
+pub mod Entries
+mod Known
+mod Sweeps
+mod Filling
+pub mod Drawn

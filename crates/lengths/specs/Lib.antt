@@ -1,2 +1,3 @@
 pub mod Sheets
 pub mod Tables
+pub mod Rounds

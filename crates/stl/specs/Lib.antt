@@ -4,3 +4,4 @@ pub mod Runs
 pub mod Until
 pub mod Formulas
 pub mod Rows
+pub mod Folds
