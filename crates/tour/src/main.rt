@@ -1,6 +1,9 @@
 // A tour of the checker: one real task from start to finish, told as it goes.
 mod broken;
 mod kinds;
+mod refusals;
+mod rules;
+mod runs;
 mod show;
 
 use listed::answers::ListedMapMap;
@@ -41,5 +44,11 @@ fn main(rt: LibcRuntime) -> io::Result<()> {
     println!(rt, "")?;
     kinds::joint_of_both(&rt)?;
     println!(rt, "")?;
-    offer_what_is_broken(&rt)
+    offer_what_is_broken(&rt)?;
+    println!(rt, "")?;
+    rules::hold_the_rows(&rt)?;
+    println!(rt, "")?;
+    runs::step_the_runs(&rt)?;
+    println!(rt, "")?;
+    refusals::show_each(&rt)
 }

@@ -1,4 +1,5 @@
-// What is printed of a map.
+// What is printed of a map, and of a session's refusals.
+use calls::fault::SessionFault;
 use look::Look;
 use look::switch::SwitchLook;
 use map::Map;
@@ -99,5 +100,32 @@ pub(crate) fn refusal(
             rt,
             "Refused, number {number}: {why}. The map has size {size}."
         ),
+    }
+}
+
+// What a session's refusal says, in words.
+fn reason(fault: SessionFault) -> &'static str {
+    match fault {
+        SessionFault::NoState => "the map has no state",
+        SessionFault::ShortSheet => "the sheet has fewer words than the map has states",
+        SessionFault::TooManyRows => "there are 64 rows already",
+        SessionFault::NamesLaterRow => "a row names itself or a later row",
+        SessionFault::NothingToMark => "every row is marked",
+        SessionFault::NoSuchState => "there is no such state",
+        SessionFault::NotMarked => "the row is not marked",
+        SessionFault::NotUntil => "the row is no until",
+        SessionFault::ShortWork => "the work table has fewer entries than the map has states",
+        SessionFault::NoRun => "there is no run",
+        SessionFault::ShortRun(_) => "the run table has too few entries",
+    }
+}
+
+// A session's refusal: its number, the length that it carries, if any, and the reason.
+pub(crate) fn fault(rt: &LibcRuntime, fault: SessionFault) -> io::Result<()> {
+    let number = fault.number();
+    let why = reason(fault);
+    match fault.length() {
+        Some(moves) => println!(rt, "Refused, number {number} with length {moves}: {why}."),
+        None => println!(rt, "Refused, number {number}: {why}."),
     }
 }
