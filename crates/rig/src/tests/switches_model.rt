@@ -155,157 +155,49 @@ fn told(panel: Panel, commands: &[Command]) -> (u8, u32) {
     }
 }
 
+// A panel and a command, by their parts.
+fn panel(bits: u32, visible: u32, start_on: u32, start_off: u32) -> Panel {
+    Panel {
+        bits,
+        visible,
+        start_on,
+        start_off,
+    }
+}
+
+fn command(need_on: u32, need_off: u32, turn_on: u32, turn_off: u32) -> Command {
+    Command {
+        need_on,
+        need_off,
+        turn_on,
+        turn_off,
+    }
+}
+
 #[test]
 fn switch_counts_and_command_counts() -> Result<(), Fail> {
-    let panel = Panel {
-        bits: 3,
-        visible: 7,
-        start_on: 0,
-        start_off: 0,
-    };
-    check_eq(
-        told(
-            Panel {
-                bits: 0,
-                visible: 0,
-                ..panel
-            },
-            &[],
-        ),
-        (5, 0),
-    )?;
-    check_eq(
-        told(
-            Panel {
-                bits: 1,
-                visible: 0,
-                ..panel
-            },
-            &[],
-        ),
-        (0, 2),
-    )?;
-    check_eq(told(Panel { bits: 12, ..panel }, &[]), (0, 4096))?;
-    check_eq(told(Panel { bits: 13, ..panel }, &[]), (5, 0))?;
-    check_eq(
-        told(
-            Panel {
-                bits: u32::MAX,
-                ..panel
-            },
-            &[IDLE; 33],
-        ),
-        (5, 0),
-    )?;
-    check_eq(told(panel, &[IDLE; 32]), (0, 8))?;
-    check_eq(told(panel, &[IDLE; 33]), (6, 0))?;
+    check_eq(told(panel(0, 0, 0, 0), &[]), (5, 0))?;
+    check_eq(told(panel(1, 0, 0, 0), &[]), (0, 2))?;
+    check_eq(told(panel(12, 7, 0, 0), &[]), (0, 4096))?;
+    check_eq(told(panel(13, 7, 0, 0), &[]), (5, 0))?;
+    check_eq(told(panel(u32::MAX, 7, 0, 0), &[IDLE; 33]), (5, 0))?;
+    check_eq(told(panel(3, 7, 0, 0), &[IDLE; 32]), (0, 8))?;
+    check_eq(told(panel(3, 7, 0, 0), &[IDLE; 33]), (6, 0))?;
     // a command that needs a switch both on and off may stand
-    check_eq(
-        told(
-            panel,
-            &[Command {
-                need_on: 7,
-                need_off: 7,
-                ..IDLE
-            }],
-        ),
-        (0, 8),
-    )
+    check_eq(told(panel(3, 7, 0, 0), &[command(7, 7, 0, 0)]), (0, 8))
 }
 
 #[test]
 fn masks_at_fault() -> Result<(), Fail> {
-    let panel = Panel {
-        bits: 3,
-        visible: 7,
-        start_on: 7,
-        start_off: 7,
-    };
-    check_eq(told(panel, &[IDLE]), (0, 8))?;
-    check_eq(
-        told(
-            Panel {
-                visible: 8,
-                ..panel
-            },
-            &[],
-        ),
-        (7, 0),
-    )?;
-    check_eq(
-        told(
-            Panel {
-                start_on: 8,
-                ..panel
-            },
-            &[],
-        ),
-        (7, 0),
-    )?;
-    check_eq(
-        told(
-            Panel {
-                start_off: 8,
-                ..panel
-            },
-            &[],
-        ),
-        (7, 0),
-    )?;
-    check_eq(told(panel, &[IDLE, Command { need_on: 8, ..IDLE }]), (7, 0))?;
-    check_eq(
-        told(
-            panel,
-            &[
-                IDLE,
-                Command {
-                    need_off: 8,
-                    ..IDLE
-                },
-            ],
-        ),
-        (7, 0),
-    )?;
-    check_eq(told(panel, &[IDLE, Command { turn_on: 8, ..IDLE }]), (7, 0))?;
-    check_eq(
-        told(
-            panel,
-            &[
-                IDLE,
-                Command {
-                    turn_off: 8,
-                    ..IDLE
-                },
-            ],
-        ),
-        (7, 0),
-    )?;
-    check_eq(
-        told(
-            panel,
-            &[
-                IDLE,
-                Command {
-                    turn_on: 6,
-                    turn_off: 2,
-                    ..IDLE
-                },
-            ],
-        ),
-        (7, 0),
-    )?;
-    check_eq(
-        told(
-            panel,
-            &[
-                IDLE,
-                Command {
-                    turn_on: 5,
-                    turn_off: 2,
-                    ..IDLE
-                },
-            ],
-        ),
-        (0, 8),
-    )
+    let right = panel(3, 7, 7, 7);
+    check_eq(told(right, &[IDLE]), (0, 8))?;
+    check_eq(told(panel(3, 8, 7, 7), &[]), (7, 0))?;
+    check_eq(told(panel(3, 7, 8, 7), &[]), (7, 0))?;
+    check_eq(told(panel(3, 7, 7, 8), &[]), (7, 0))?;
+    check_eq(told(right, &[IDLE, command(8, 0, 0, 0)]), (7, 0))?;
+    check_eq(told(right, &[IDLE, command(0, 8, 0, 0)]), (7, 0))?;
+    check_eq(told(right, &[IDLE, command(0, 0, 8, 0)]), (7, 0))?;
+    check_eq(told(right, &[IDLE, command(0, 0, 0, 8)]), (7, 0))?;
+    check_eq(told(right, &[IDLE, command(0, 0, 6, 2)]), (7, 0))?;
+    check_eq(told(right, &[IDLE, command(0, 0, 5, 2)]), (0, 8))
 }
