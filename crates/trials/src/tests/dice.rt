@@ -46,7 +46,8 @@ fn thrown_start(dice: &mut Dice) -> u8 {
 
 // Tables of 1 to `most` states, 6 at most, each with up to 3 targets.
 pub fn thrown_tables(dice: &mut Dice, most: u32) -> Tables {
-    let size = dice.below(most.min(6)).saturating_add(1);
+    let most = most.min(6);
+    let size = dice.below(most).max(dice.below(most)).saturating_add(1);
     let mut looks = [SwitchLook { marks: 0 }; 6];
     let mut starts = [0; 6];
     for s in 0..6 {
@@ -65,13 +66,14 @@ pub fn thrown_tables(dice: &mut Dice, most: u32) -> Tables {
     }
 }
 
-// Up to 3 targets for each state, and where the list of each begins.
+// Up to 3 targets for each state, or up to 2 or 1, and where the list of each begins.
 fn lists(dice: &mut Dice, size: u32) -> ([u32; 7], [u32; 18]) {
     let mut firsts = [0; 7];
     let mut targets = [0; 18];
     let mut count: u32 = 0;
+    let bound = dice.below(3).saturating_add(2);
     for s in 0..6 {
-        for _ in 0..dice.below(4) {
+        for _ in 0..dice.below(bound) {
             if count < 18 {
                 targets[count as usize] = dice.below(size);
                 count += 1;
