@@ -1,0 +1,3 @@
+// Sessions that are run on many small maps and compared with a plain model.
+#[cfg(test)]
+mod tests;
