@@ -1,0 +1,2 @@
+// The texts of maps and rules: numbers, lines, and where a line ends.
+pub mod number;
