@@ -1,2 +1,3 @@
 // The texts of maps and rules: numbers, lines, and where a line ends.
 pub mod number;
+pub mod split;
