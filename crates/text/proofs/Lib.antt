@@ -1,2 +1,3 @@
 mod Numerals
 mod Parting
+mod Forms

@@ -1,3 +1,6 @@
 // The texts of maps and rules: numbers, lines, and where a line ends.
+mod field;
+mod kind;
+pub mod line;
 pub mod number;
 pub mod split;

@@ -1,0 +1,52 @@
+-- The forms of lines, field by field. Assumes nothing.
+use mathlib.Core.Path.{_≡_, refl, sym, ap, _∙_}
+use mathlib.Core.List.{List, [], _∷_}
+use Prim.Native.Nat.{ℕ, _+_}
+use Rattle.std.specs.Options.{mapped}
+use Rattle.std.specs.declared.option.Option.{Option}
+use Rattle.std.specs.declared.option.Option.the-variants.{Some, None}
+use Rattle.std.specs.declared.result.Result.{Result}
+use Rattle.std.specs.declared.result.Result.the-variants.{Ok, Err}
+use Rattle.text.proofs.Parting.{parts-after, parts-first}
+use Rattle.text.specs.Lines.{fields, both, number-in, one-number, two-numbers}
+use Rattle.text.specs.Split.{before, after, parts}
+use Rattle.text.specs.declared.line.LineFault.{LineFault}
+use Rattle.text.specs.declared.line.LineFault.the-variants.{NotOfAForm, BadNumber}
+
+-- the fields, where the first is the only one, and where more follow
+pub only-field : (bs : List ℕ) → after 9 bs ≡ None → fields bs ≡ before 9 bs ∷ []
+only-field bs e = parts-first 9 bs ∙ ap (λ o. before 9 bs ∷ parts-after 9 o) e
+
+pub first-field : (bs : List ℕ) {rest : List ℕ} → after 9 bs ≡ Some rest → fields bs ≡ before 9 bs ∷ fields rest
+first-field bs e = parts-first 9 bs ∙ ap (λ o. before 9 bs ∷ parts-after 9 o) e
+
+-- one number
+module _ (place bound : ℕ) (bs : List ℕ) where
+  pub one-read : (field : List ℕ) → field ≡ before 9 bs → after 9 bs ≡ None → number-in place bound field ≡ one-number place bound (fields bs)
+  one-read field e n = ap (number-in place bound) e ∙ sym (ap (one-number place bound) (only-field bs n))
+
+  pub one-many : {rest : List ℕ} → after 9 bs ≡ Some rest → Err NotOfAForm ≡ one-number place bound (fields bs)
+  one-many {rest} s = sym (ap (one-number place bound) (first-field bs s ∙ ap (λ fs. before 9 bs ∷ fs) (parts-first 9 rest)))
+
+-- two numbers
+module _ (place bound next : ℕ) (bs : List ℕ) where
+  pub two-few : after 9 bs ≡ None → Err NotOfAForm ≡ two-numbers place bound next (fields bs)
+  two-few n = sym (ap (two-numbers place bound next) (only-field bs n))
+
+  module _ {rest : List ℕ} (s : after 9 bs ≡ Some rest) where
+    pub two-read : (first second : List ℕ) → first ≡ before 9 bs → second ≡ before 9 rest → after 9 rest ≡ None → both (number-in place bound first) (number-in (place + 1) next second) ≡ two-numbers place bound next (fields bs)
+    two-read first second e f n =
+        ap (λ a. both (number-in place bound a) (number-in (place + 1) next second)) e
+        ∙ ap (λ b. both (number-in place bound (before 9 bs)) (number-in (place + 1) next b)) f
+        ∙ sym (ap (two-numbers place bound next) (first-field bs s ∙ ap (λ fs. before 9 bs ∷ fs) (only-field rest n)))
+
+    pub two-many : {more : List ℕ} → after 9 rest ≡ Some more → Err NotOfAForm ≡ two-numbers place bound next (fields bs)
+    two-many {more} m = sym (ap (two-numbers place bound next) (first-field bs s ∙ ap (λ fs. before 9 bs ∷ fs) (first-field rest m ∙ ap (λ fs. before 9 rest ∷ fs) (parts-first 9 more))))
+
+-- what a call says of the bytes after a field, once its answer is known
+module _ {X : Type 0} (f : X → List ℕ) (o : Option X) {rest : Option (List ℕ)} (m : mapped f o ≡ rest) where
+  pub none-after : o ≡ None → rest ≡ None
+  none-after e = sym m ∙ ap (mapped f) e
+
+  pub some-after : (x : X) → o ≡ Some x → rest ≡ Some (f x)
+  some-after x e = sym m ∙ ap (mapped f) e
