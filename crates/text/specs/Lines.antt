@@ -78,6 +78,11 @@ row-of (Some kind.Or) operands = then-make (λ p. Or (p .0) (p .1)) (two-numbers
 row-of (Some kind.Next) operands = then-make Next (one-number 3 (2 ^ 32) operands)
 row-of (Some kind.Until) operands = then-make (λ p. Until (p .0) (p .1)) (two-numbers 3 (2 ^ 32) (2 ^ 32) operands)
 
+-- the row that fields are: the word of a kind, and its operands
+abbrev pub row-in : List (List ℕ) → Result Row LineFault
+row-in [] = Err NotOfAForm
+row-in (word ∷ operands) = row-of (kind-of word) operands
+
 -- `M`: the size of the map
 abbrev pub map-line : List (List ℕ) → Result Line LineFault
 map-line rest = then-make Map (one-number 2 (2 ^ 32) rest)
@@ -90,10 +95,9 @@ state-line rest = then-make (λ p. State (p .0) (p .1)) (two-numbers 2 (2 ^ 32) 
 abbrev pub target-line : List (List ℕ) → Result Line LineFault
 target-line rest = then-make Target (one-number 2 (2 ^ 32) rest)
 
--- `R`: the kind of a row, and its operands
+-- `R`: a row of a rule list
 abbrev pub rule-line : List (List ℕ) → Result Line LineFault
-rule-line [] = Err NotOfAForm
-rule-line (word ∷ operands) = then-make Rule (row-of (kind-of word) operands)
+rule-line rest = then-make Rule (row-in rest)
 
 -- what the letter says of the fields after it
 abbrev pub by-letter : ℕ → List (List ℕ) → Result Line LineFault

@@ -1,15 +1,26 @@
 // The numbers in the fields of a line.
 ghost use mathlib.Core.Path.{_≡_};
 ghost use Prim.Native.Nat.{_+_, _^_, _<_, _≤_};
+ghost use Rattle.std.specs.Vec.{made};
 ghost use Rattle.text.specs.Lines.{fields, both, number-in, one-number, two-numbers};
 use crate::line::LineFault;
 use crate::number::read_below;
 use crate::split::split_first;
 
+// Every number is below this.
+pub(crate) const NUMBERS: u64 = 4_294_967_296;
+
+// Every sign is below this.
+pub(crate) const SIGNS: u64 = 65_536;
+
+// Every start is below this.
+pub(crate) const STARTS: u64 = 2;
+
 // The number in a field, which has this place in its line.
 fn read_field(field: &[u8], place: u32, bound: u64) -> Result<u32, LineFault>
     requires { ⌜ bound ≤ 2 ^ 32 ⌝ }
-    ensures { λ r. ⌜ r ≡ number-in place bound (now (field .entry)) ⌝ }
+    ensures read { λ r. ⌜ r ≡ number-in place bound (now (field .entry)) ⌝ }
+    ensures below { λ r. ⌜ made r (λ n. n < bound) ⌝ }
 {
     match read_below(field, bound) {
         Some(n) => Ok(n),
@@ -27,7 +38,8 @@ fn read_both(
 ) -> Result<(u32, u32), LineFault>
     requires place { ⌜ place < 4 ⌝ }
     requires bounds { ⌜ bound ≤ 2 ^ 32 ⌝ ∗ ⌜ next ≤ 2 ^ 32 ⌝ }
-    ensures { λ r. ⌜ r ≡ both (number-in place bound (now (first .entry))) (number-in (place + 1) next (now (second .entry))) ⌝ }
+    ensures read { λ r. ⌜ r ≡ both (number-in place bound (now (first .entry))) (number-in (place + 1) next (now (second .entry))) ⌝ }
+    ensures below { λ r. ⌜ made r (λ p. (p .0 < bound) × (p .1 < next)) ⌝ }
 {
     let a = read_field(first, place, bound)?;
     let b = read_field(second, place + 1, next)?;
@@ -37,7 +49,8 @@ fn read_both(
 // One number and no more.
 pub(crate) fn read_one(rest: &[u8], place: u32, bound: u64) -> Result<u32, LineFault>
     requires { ⌜ bound ≤ 2 ^ 32 ⌝ }
-    ensures { λ r. ⌜ r ≡ one-number place bound (fields (now (rest .entry))) ⌝ }
+    ensures read { λ r. ⌜ r ≡ one-number place bound (fields (now (rest .entry))) ⌝ }
+    ensures below { λ r. ⌜ made r (λ n. n < bound) ⌝ }
 {
     match split_first(rest, 9) {
         (field, None) => read_field(field, place, bound),
@@ -54,7 +67,8 @@ pub(crate) fn read_two(
 ) -> Result<(u32, u32), LineFault>
     requires place { ⌜ place < 4 ⌝ }
     requires bounds { ⌜ bound ≤ 2 ^ 32 ⌝ ∗ ⌜ next ≤ 2 ^ 32 ⌝ }
-    ensures { λ r. ⌜ r ≡ two-numbers place bound next (fields (now (rest .entry))) ⌝ }
+    ensures read { λ r. ⌜ r ≡ two-numbers place bound next (fields (now (rest .entry))) ⌝ }
+    ensures below { λ r. ⌜ made r (λ p. (p .0 < bound) × (p .1 < next)) ⌝ }
 {
     match split_first(rest, 9) {
         (_, None) => Err(LineFault::NotOfAForm),

@@ -1,4 +1,11 @@
 // Lines of a text.
+ghost use mathlib.Core.Path.{_≡_};
+ghost use Rattle.text.specs.Lines.{fields, line-of, map-line, state-line, target-line, rule-line};
+use crate::field::NUMBERS;
+use crate::field::STARTS;
+use crate::field::read_one;
+use crate::field::read_two;
+use crate::kind::read_row;
 use stl::row::Row;
 
 // What a line says.
@@ -21,4 +28,46 @@ pub enum LineFault {
     NotOfAForm,
     // this field is no number, or past its bound; the letter is field 1
     BadNumber(u32),
+}
+
+// The size of a map.
+fn read_map(rest: &[u8]) -> Result<Line, LineFault>
+    ensures { λ r. ⌜ r ≡ map-line (fields (now (rest .entry))) ⌝ }
+{
+    Ok(Line::Map(read_one(rest, 2, NUMBERS)?))
+}
+
+// The look and the start of a state.
+fn read_state(rest: &[u8]) -> Result<Line, LineFault>
+    ensures { λ r. ⌜ r ≡ state-line (fields (now (rest .entry))) ⌝ }
+{
+    let (look, start) = read_two(rest, 2, NUMBERS, STARTS)?;
+    Ok(Line::State(look, start as u8))
+}
+
+// A target.
+fn read_target(rest: &[u8]) -> Result<Line, LineFault>
+    ensures { λ r. ⌜ r ≡ target-line (fields (now (rest .entry))) ⌝ }
+{
+    Ok(Line::Target(read_one(rest, 2, NUMBERS)?))
+}
+
+// A row.
+fn read_rule(rest: &[u8]) -> Result<Line, LineFault>
+    ensures { λ r. ⌜ r ≡ rule-line (fields (now (rest .entry))) ⌝ }
+{
+    Ok(Line::Rule(read_row(rest)?))
+}
+
+// What a line says, or what is wrong with it; its byte 10 is left out.
+pub fn read_line(line: &[u8]) -> Result<Line, LineFault>
+    ensures { λ r. ⌜ r ≡ line-of (now (line .entry)) ⌝ }
+{
+    match line {
+        [b'M', 9, rest @ ..] => read_map(rest),
+        [b'S', 9, rest @ ..] => read_state(rest),
+        [b'T', 9, rest @ ..] => read_target(rest),
+        [b'R', 9, rest @ ..] => read_rule(rest),
+        _ => Err(LineFault::NotOfAForm),
+    }
 }

@@ -1,6 +1,7 @@
 // Numbers: plain base ten, without leading zeros.
 ghost use mathlib.Core.Path.{_≡_};
-ghost use Prim.Native.Nat.{_^_, _≤_};
+ghost use Prim.Native.Nat.{_^_, _<_, _≤_};
+ghost use Rattle.std.specs.Options.{Cases as BySome};
 ghost use Rattle.text.specs.Numbers.{digit, number-of, number-below, NumberLaws};
 
 // Whether a byte is a digit.
@@ -33,7 +34,8 @@ pub fn read_number(field: &[u8]) -> Option<u32>
 // The number that a field is, if it is one and below the bound.
 pub(crate) fn read_below(field: &[u8], bound: u64) -> Option<u32>
     requires { ⌜ bound ≤ 2 ^ 32 ⌝ }
-    ensures { λ r. ⌜ r ≡ number-below bound (now (field .entry)) ⌝ }
+    ensures read { λ r. ⌜ r ≡ number-below bound (now (field .entry)) ⌝ }
+    ensures below { λ r. ⌜ BySome r (Unit {0}) (λ n. n < bound) ⌝ }
 {
     match read_number(field) {
         Some(n) if (n as u64) < bound => Some(n),
