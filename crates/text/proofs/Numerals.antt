@@ -28,7 +28,7 @@ value-after-ge n (b ∷ bs) = let h = value-after-ge (n * 10 + (b - 48)) bs in o
 digit-from : (b : ℕ) → 48 ≤ b → b ≤ 57 → digit b ≡ true
 digit-from b l h = and-from _ _ (le-leb 48 b l) (le-leb b 57 h)
 
-digit-low : (b : ℕ) → digit b ≡ true → 48 ≤ b
+pub digit-low : (b : ℕ) → digit b ≡ true → 48 ≤ b
 digit-low b h = leb-true 48 b (and-parts _ _ h .0)
 
 digit-high : (b : ℕ) → digit b ≡ true → b ≤ 57
@@ -133,8 +133,13 @@ formed-written (b ∷ (c ∷ more)) f =
     let ne = eqb-false b 48 (not-true _ (p .0)) in
     front-written b (c ∷ more) (⊎-elim (λ e. absurd (ne e)) (λ n. omega arith) (cases-eq b 48)) (p .1)
 
+formed-digits : (field : List ℕ) → well-formed field ≡ true → all-digits field ≡ true
+formed-digits [] f = refl
+formed-digits (b ∷ []) f = and-from _ true f refl
+formed-digits (b ∷ (c ∷ more)) f = and-parts (not (eqb b 48)) (all-digits (b ∷ (c ∷ more))) f .1
+
 -- what a field is, once its tests are known
-pub number-at : (bound : ℕ) (field : List ℕ) (n : ℕ) → number-below bound field ≡ Some n → (well-formed field ≡ true) × (n < bound) × (digits-value field ≡ n)
+number-at : (bound : ℕ) (field : List ℕ) (n : ℕ) → number-below bound field ≡ Some n → (well-formed field ≡ true) × (n < bound) × (digits-value field ≡ n)
 number-at bound field n e = ⊎-elim
     (λ t.
     let p = and-parts (well-formed field) (ltb (digits-value field) bound) t in
@@ -157,3 +162,6 @@ number-laws = record {
   one-numeral = λ bound field n e. let p = number-at bound field n e in formed-written field (p .0) ∙ ap written (p .2);
   in-bound = λ bound field n e. number-at bound field n e .1;
 }
+
+pub written-digits : (n : ℕ) → all-digits (written n) ≡ true
+written-digits n = formed-digits (written n) (number-at (n + 1) (written n) n (number-laws .reads-back (n + 1) n (omega arith)) .0)

@@ -2,5 +2,6 @@
 mod field;
 mod kind;
 pub mod line;
+pub mod lines;
 pub mod number;
 pub mod split;

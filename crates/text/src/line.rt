@@ -1,6 +1,8 @@
 // Lines of a text.
 ghost use mathlib.Core.Path.{_≡_};
+ghost use Rattle.text.specs.Faults.{refusal};
 ghost use Rattle.text.specs.Lines.{fields, line-of, map-line, state-line, target-line, rule-line};
+ghost use Rattle.text.specs.Written.{LineLaws};
 use crate::field::NUMBERS;
 use crate::field::STARTS;
 use crate::field::read_one;
@@ -28,6 +30,28 @@ pub enum LineFault {
     NotOfAForm,
     // this field is no number, or past its bound; the letter is field 1
     BadNumber(u32),
+}
+
+impl LineFault {
+    // The number by which the refusal is known.
+    pub fn number(self) -> u8
+        ensures { λ r. ⌜ r ≡ refusal self .number ⌝ }
+    {
+        match self {
+            LineFault::NotOfAForm => 11,
+            LineFault::BadNumber(_) => 12,
+        }
+    }
+
+    // The field at fault, where the refusal carries one.
+    pub fn field(self) -> Option<u32>
+        ensures { λ r. ⌜ r ≡ refusal self .carried ⌝ }
+    {
+        match self {
+            LineFault::NotOfAForm => None,
+            LineFault::BadNumber(field) => Some(field),
+        }
+    }
 }
 
 // The size of a map.
@@ -71,3 +95,8 @@ pub fn read_line(line: &[u8]) -> Result<Line, LineFault>
         _ => Err(LineFault::NotOfAForm),
     }
 }
+
+// A line has one text, and that text reads back as the line.
+pub fn lines_keep_their_laws()
+    ensures { λ _. ⌜ LineLaws ⌝ }
+{}

@@ -1,7 +1,7 @@
 // Bytes parted by a byte.
 ghost use mathlib.Core.Path.{_≡_};
 ghost use Rattle.std.specs.Options.{mapped};
-ghost use Rattle.text.specs.Split.{before, after as rest-after};
+ghost use Rattle.text.specs.Split.{before, after as rest-after, SplitLaws};
 
 // The bytes before the first byte `at`, and those after it if there is one.
 pub fn split_first(bytes: &[u8], at: u8) -> (&[u8], Option<&[u8]>)
@@ -15,3 +15,8 @@ pub fn split_first(bytes: &[u8], at: u8) -> (&[u8], Option<&[u8]>)
     }
     (bytes, None)
 }
+
+// Bytes are split at the first byte `at`, and nowhere else.
+pub fn splits_keep_their_laws()
+    ensures { λ _. ⌜ SplitLaws ⌝ }
+{}
