@@ -1,6 +1,5 @@
 -- The forms of lines, field by field. Assumes nothing.
-use mathlib.Core.Path.{_≡_, refl, sym, ap, _∙_}
-use mathlib.Core.Bool.{cond}
+use mathlib.Core.Path.{_≡_, sym, ap, _∙_}
 use mathlib.Core.List.{List, [], _∷_}
 use Prim.Native.Nat.{ℕ, _+_, _-_, _≤_}
 use native.Mathlib.Omega.{arith}
@@ -10,15 +9,13 @@ use Rattle.std.proofs.shelf.Tests.{cond-true, eq-eqb}
 use Rattle.std.specs.Options.{mapped}
 use Rattle.std.specs.declared.option.Option.{Option}
 use Rattle.std.specs.declared.option.Option.the-variants.{Some, None}
-use Rattle.std.specs.declared.result.Result.{Result}
-use Rattle.std.specs.declared.result.Result.the-variants.{Ok, Err}
+use Rattle.std.specs.declared.result.Result.the-variants.{Err}
 use Rattle.text.proofs.Parting.{parts-after, parts-first}
 use Rattle.text.specs.Lines.{fields, both, number-in, one-number, two-numbers, no-number, kind-of, row-of, row-in, by-letter, line-of}
-use Rattle.text.specs.Split.{before, after, parts}
+use Rattle.text.specs.Split.{before, after}
 use Rattle.text.specs.declared.kind.Kind.{Kind}
 use Rattle.text.specs.declared.kind.Kind.the-variants as kind
-use Rattle.text.specs.declared.line.LineFault.{LineFault}
-use Rattle.text.specs.declared.line.LineFault.the-variants.{NotOfAForm, BadNumber}
+use Rattle.text.specs.declared.line.LineFault.the-variants.{NotOfAForm}
 
 -- the fields, where the first is the only one, and where more follow
 pub only-field : (bs : List ℕ) → after 9 bs ≡ None → fields bs ≡ before 9 bs ∷ []

@@ -1,6 +1,6 @@
 -- Numbers and their numerals. Assumes nothing.
 use mathlib.Core.Path.{_≡_, refl, sym, ap, subst, _∙_}
-use mathlib.Core.Bool.{Bool, true, false, cond, not, _&&_}
+use mathlib.Core.Bool.{true, false, cond, not, _&&_}
 use mathlib.Core.List.{List, [], _∷_, _++_, map}
 use mathlib.Core.Logic.{⊎-elim}
 use Prim.Native.Nat.{ℕ, _+_, _-_, _*_, _/_, _%_, _^_, _≤_, _<_}
@@ -9,11 +9,11 @@ use lib.Dec.{ltb, leb, eqb}
 use lib.ListN.{getD, drop, length}
 use Rattle.std.proofs.shelf.Digits.{digitsOf-step, under-digitsOf, first-digitsOf, number-digitsOf}
 use Rattle.std.proofs.shelf.Lists.{append-nil, append-assoc, map-append, at-drop-more, at-drop-all}
-use Rattle.std.proofs.shelf.Tests.{cond-true, cond-false, eq-eqb, ne-eqb, eqb-true, eqb-false, ltb-true, lt-ltb, le-ltb, le-leb, lt-leb, leb-true, and-parts, and-from, and-left, and-right, cases-bool, cases-eq, cases-lt, not-true, not-from-false}
+use Rattle.std.proofs.shelf.Tests.{cond-true, cond-false, ne-eqb, eqb-false, ltb-true, lt-ltb, le-ltb, le-leb, leb-true, and-parts, and-from, and-right, cases-bool, cases-eq, not-true, not-from-false}
 use Rattle.std.specs.shelf.Digits.{digitsOf, numberAfter, number, Under}
 use Rattle.std.specs.declared.option.Option.{Option}
 use Rattle.std.specs.declared.option.Option.the-variants.{Some, None}
-use Rattle.text.specs.Numbers.{digit, all-digits, value-after, digits-value, well-formed, number-below, number-of, digit-bytes, written, NumberLaws}
+use Rattle.text.specs.Numbers.{digit, all-digits, value-after, digits-value, well-formed, number-below, digit-bytes, written, NumberLaws}
 
 -- what is left of a field, read on after the number so far
 abbrev pub read-on : ℕ → List ℕ → Option ℕ

@@ -1,9 +1,9 @@
 -- Lines as they are written, and read back. Assumes nothing.
 use mathlib.Core.Path.{_≡_, refl, sym, ap, subst, _∙_}
-use mathlib.Core.Bool.{Bool, true, false, cond, not, _&&_}
+use mathlib.Core.Bool.{Bool, true, cond, not, _&&_}
 use mathlib.Core.List.{List, [], _∷_, _++_}
 use mathlib.Core.Logic.{⊎-elim}
-use Prim.Native.Nat.{ℕ, _+_, _^_, _≤_, _<_}
+use Prim.Native.Nat.{ℕ, _+_, _^_, _<_}
 use native.Mathlib.Omega.{arith}
 use lib.Chars.{codes}
 use lib.Dec.{eqb, leb}
@@ -22,7 +22,7 @@ use Rattle.text.proofs.Numerals.{number-laws, written-digits, digit-low}
 use Rattle.text.proofs.Parting.{parts-after, parts-first, splits, lacking, lacks-append}
 use Rattle.text.specs.Lines.{fields, then-make, both, number-in, one-number, two-numbers, kind-of, no-number, row-of, row-in, map-line, state-line, target-line, rule-line, by-letter, line-of}
 use Rattle.text.specs.Numbers.{digit, all-digits, number-below, written}
-use Rattle.text.specs.Split.{before, after, onto-first, parts, lacks}
+use Rattle.text.specs.Split.{before, after, onto-first, lacks}
 use Rattle.text.specs.Written.{tabbed, row-fields, written-line, RowFits, LineFits, LineLaws}
 use Rattle.text.specs.declared.kind.Kind.{Kind}
 use Rattle.text.specs.declared.kind.Kind.the-variants as kind
@@ -100,19 +100,16 @@ no-end (Rule row) = tabbed-lacks (row-fields row) (row-high row)
 number-written : (place bound n : ℕ) → n < bound → number-in place bound (written n) ≡ Ok n
 number-written place bound n h = ap (λ o. okOr o (BadNumber place)) (number-laws .reads-back bound n h)
 
-one-written : (place bound n : ℕ) → n < bound → one-number place bound (written n ∷ []) ≡ Ok n
-one-written place bound n h = number-written place bound n h
-
 two-written : (place bound next a b : ℕ) → a < bound → b < next → two-numbers place bound next (written a ∷ (written b ∷ [])) ≡ Ok (a, b)
 two-written place bound next a b h k =
     ap (λ r. both r (number-in (place + 1) next (written b))) (number-written place bound a h) ∙ ap (λ r. both (Ok a) r) (number-written (place + 1) next b k)
 
 row-written : (row : Row) → RowFits row → row-in (row-fields row) ≡ Ok row
 row-written True h = refl
-row-written (Sign k) h = ap (then-make Sign) (one-written 3 (2 ^ 16) k h)
-row-written (Not a) h = ap (then-make Not) (one-written 3 (2 ^ 32) a h)
+row-written (Sign k) h = ap (then-make Sign) (number-written 3 (2 ^ 16) k h)
+row-written (Not a) h = ap (then-make Not) (number-written 3 (2 ^ 32) a h)
 row-written (Or a b) h = ap (then-make (λ p. Or (p .0) (p .1))) (two-written 3 (2 ^ 32) (2 ^ 32) a b (h .0) (h .1))
-row-written (Next a) h = ap (then-make Next) (one-written 3 (2 ^ 32) a h)
+row-written (Next a) h = ap (then-make Next) (number-written 3 (2 ^ 32) a h)
 row-written (Until a b) h = ap (then-make (λ p. Until (p .0) (p .1))) (two-written 3 (2 ^ 32) (2 ^ 32) a b (h .0) (h .1))
 
 fields-row : (row : Row) → rule-line (row-fields row) ≡ line-of (written-line (Rule row))
@@ -124,10 +121,10 @@ fields-row (Next a) = sym (ap rule-line (fields-tabbed (codes "next") (written a
 fields-row (Until a b) = sym (ap rule-line (fields-tabbed (codes "until") (written a ∷ (written b ∷ [])) refl (written-high a, (written-high b, tt))))
 
 reads-back : (line : Line) → LineFits line → line-of (written-line line) ≡ Ok line
-reads-back (Map size) h = ap map-line (fields-tabbed (written size) [] (written-high size) tt) ∙ ap (then-make Map) (one-written 2 (2 ^ 32) size h)
+reads-back (Map size) h = ap map-line (fields-tabbed (written size) [] (written-high size) tt) ∙ ap (then-make Map) (number-written 2 (2 ^ 32) size h)
 reads-back (State look start) h =
     ap state-line (fields-tabbed (written look) (written start ∷ []) (written-high look) (written-high start, tt)) ∙ ap (then-make (λ p. State (p .0) (p .1))) (two-written 2 (2 ^ 32) 2 look start (h .0) (h .1))
-reads-back (Target target) h = ap target-line (fields-tabbed (written target) [] (written-high target) tt) ∙ ap (then-make Target) (one-written 2 (2 ^ 32) target h)
+reads-back (Target target) h = ap target-line (fields-tabbed (written target) [] (written-high target) tt) ∙ ap (then-make Target) (number-written 2 (2 ^ 32) target h)
 reads-back (Rule row) h = sym (fields-row row) ∙ ap (then-make Rule) (row-written row h)
 
 -- what reads as a line is that line as it is written

@@ -7,15 +7,6 @@ use crate::line::LineFault;
 use crate::number::read_below;
 use crate::split::split_first;
 
-// Every number is below this.
-pub(crate) const NUMBERS: u64 = 4_294_967_296;
-
-// Every sign is below this.
-pub(crate) const SIGNS: u64 = 65_536;
-
-// Every start is below this.
-pub(crate) const STARTS: u64 = 2;
-
 // The number in a field, which has this place in its line.
 fn read_field(field: &[u8], place: u32, bound: u64) -> Result<u32, LineFault>
     requires { ⌜ bound ≤ 2 ^ 32 ⌝ }

@@ -3,11 +3,11 @@ ghost use mathlib.Core.List.{[]};
 ghost use mathlib.Core.Path.{_≡_};
 ghost use Rattle.std.specs.shelf.Text.{sameBytes};
 ghost use Rattle.text.specs.Lines.{fields, kind-of, row-of, row-in};
-use crate::field::NUMBERS;
-use crate::field::SIGNS;
 use crate::field::read_one;
 use crate::field::read_two;
 use crate::line::LineFault;
+use crate::number::NUMBERS;
+use crate::number::SIGNS;
 use crate::split::split_first;
 use stl::row::Row;
 

@@ -3,11 +3,11 @@ ghost use mathlib.Core.Path.{_≡_};
 ghost use Rattle.text.specs.Faults.{refusal};
 ghost use Rattle.text.specs.Lines.{fields, line-of, map-line, state-line, target-line, rule-line};
 ghost use Rattle.text.specs.Written.{LineLaws};
-use crate::field::NUMBERS;
-use crate::field::STARTS;
 use crate::field::read_one;
 use crate::field::read_two;
 use crate::kind::read_row;
+use crate::number::NUMBERS;
+use crate::number::STARTS;
 use stl::row::Row;
 
 // What a line says.

@@ -4,6 +4,15 @@ ghost use Prim.Native.Nat.{_^_, _<_, _≤_};
 ghost use Rattle.std.specs.Options.{Cases as BySome};
 ghost use Rattle.text.specs.Numbers.{digit, number-of, number-below, NumberLaws};
 
+// Every number is below this.
+pub(crate) const NUMBERS: u64 = 4_294_967_296;
+
+// Every sign is below this.
+pub(crate) const SIGNS: u64 = 65_536;
+
+// Every start is below this.
+pub(crate) const STARTS: u64 = 2;
+
 // Whether a byte is a digit.
 fn is_digit(b: u8) -> bool
     ensures { λ r. ⌜ r ≡ digit b ⌝ }
@@ -24,7 +33,7 @@ pub fn read_number(field: &[u8]) -> Option<u32>
             return None;
         }
         value = value * 10 + (*b - b'0') as u64;
-        if value >= 4_294_967_296 {
+        if value >= NUMBERS {
             return None;
         }
     }
