@@ -1,0 +1,4 @@
+mod Numerals
+mod Parting
+mod Forms
+mod Writing
