@@ -92,5 +92,18 @@ pub lacks-append : (at : ℕ) (xs ys : List ℕ) → lacks at xs ≡ true → la
 lacks-append at [] ys k l = l
 lacks-append at (x ∷ xs) ys k l = let p = and-parts (not (eqb x at)) (lacks at xs) k in and-from _ _ (p .0) (lacks-append at xs ys (p .1) l)
 
+pub more-parts : (at : ℕ) (bs rest : List ℕ) → after at bs ≡ Some rest → parts at bs ≡ before at bs ∷ parts at rest
+more-parts at bs rest e = parts-first at bs ∙ ap (λ o. before at bs ∷ parts-after at o) e
+
+pub only-part : (at : ℕ) (bs : List ℕ) → after at bs ≡ None → parts at bs ≡ before at bs ∷ []
+only-part at bs e = parts-first at bs ∙ ap (λ o. before at bs ∷ parts-after at o) e
+
 pub split-laws : SplitLaws
-split-laws = record { none-before = none-before; whole = whole; joins = joins; splits = splits }
+split-laws = record {
+  none-before = none-before;
+  whole = whole;
+  joins = joins;
+  splits = splits;
+  one-part = λ at bs e. only-part at bs e ∙ ap (λ xs. xs ∷ []) (whole at bs e);
+  more-parts = more-parts;
+}

@@ -19,7 +19,7 @@ use Rattle.std.specs.shelf.Text.{sameBytes}
 use Rattle.stl.specs.declared.row.Row.{Row}
 use Rattle.stl.specs.declared.row.Row.the-variants.{True, Sign, Not, Or, Next, Until}
 use Rattle.text.proofs.Numerals.{number-laws, written-digits, digit-low}
-use Rattle.text.proofs.Parting.{parts-after, parts-first, splits, lacking, lacks-append}
+use Rattle.text.proofs.Parting.{parts-after, parts-first, only-part, more-parts, splits, lacking, lacks-append}
 use Rattle.text.specs.Lines.{fields, then-make, both, number-in, one-number, two-numbers, kind-of, no-number, row-of, row-in, map-line, state-line, target-line, rule-line, by-letter, line-of}
 use Rattle.text.specs.Numbers.{digit, all-digits, number-below, written}
 use Rattle.text.specs.Split.{before, after, onto-first, lacks}
@@ -68,11 +68,11 @@ row-high (Until a b) = (refl, (written-high a, (written-high b, tt)))
 fields-tabbed : (f : List ℕ) (fs : List (List ℕ)) → high f ≡ true → AllHigh fs → fields (f ++ tabbed fs) ≡ f ∷ fs
 fields-tabbed f [] h hs =
     let l = lacking 9 f (high-lacks 9 (omega arith) f h) in
-    ap fields (append-nil f) ∙ parts-first 9 f ∙ ap (λ o. before 9 f ∷ parts-after 9 o) (l .1) ∙ ap (λ g. g ∷ []) (l .0)
+    ap fields (append-nil f) ∙ only-part 9 f (l .1) ∙ ap (λ g. g ∷ []) (l .0)
 fields-tabbed f (g ∷ gs) h all =
     let bs : List ℕ = f ++ tabbed (g ∷ gs) in
     let s = splits 9 f (g ++ tabbed gs) (high-lacks 9 (omega arith) f h) in
-    parts-first 9 bs ∙ ap (λ o. before 9 bs ∷ parts-after 9 o) (s .1) ∙ ap (λ a. a ∷ fields (g ++ tabbed gs)) (s .0) ∙ ap (λ hs. f ∷ hs) (fields-tabbed g gs (all .0) (all .1))
+    more-parts 9 bs (g ++ tabbed gs) (s .1) ∙ ap (λ a. a ∷ fields (g ++ tabbed gs)) (s .0) ∙ ap (λ hs. f ∷ hs) (fields-tabbed g gs (all .0) (all .1))
 
 tabbed-fields : (bs : List ℕ) → tabbed (fields bs) ≡ 9 ∷ bs
 tabbed-fields [] = refl

@@ -37,7 +37,7 @@ abbrev pub lacks : ℕ → List ℕ → Bool
 lacks at [] = true
 lacks at (b ∷ bs) = not (eqb b at) && lacks at bs
 
--- what lies before and after the first byte `at`
+-- what lies before and after the first byte `at`, and between such bytes
 pub record SplitLaws : Type 0 where
   -- nothing before it is such a byte
   pub none-before : (at : ℕ) (bs : List ℕ) → lacks at (before at bs) ≡ true
@@ -47,3 +47,7 @@ pub record SplitLaws : Type 0 where
   pub joins : (at : ℕ) (bs rest : List ℕ) → after at bs ≡ Some rest → before at bs ++ (at ∷ rest) ≡ bs
   -- bytes put together so are split there again
   pub splits : (at : ℕ) (front rest : List ℕ) → lacks at front ≡ true → (before at (front ++ (at ∷ rest)) ≡ front) × (after at (front ++ (at ∷ rest)) ≡ Some rest)
+  -- without such a byte there is one part
+  pub one-part : (at : ℕ) (bs : List ℕ) → after at bs ≡ None → parts at bs ≡ bs ∷ []
+  -- with one, the first part lies before it, and the others are the parts of the rest
+  pub more-parts : (at : ℕ) (bs rest : List ℕ) → after at bs ≡ Some rest → parts at bs ≡ before at bs ∷ parts at rest
