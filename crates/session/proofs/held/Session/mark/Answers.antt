@@ -16,7 +16,7 @@ pub mark-row-reach-requires : need.mark-row-reach-requires
 mark-row-reach-requires g c κs =
     let x = c .args .self .now in
     let t = row-there (x .rules) (x .marked) (c .in-Some .row) (c .in-Some .ensures tt) in
-    record { bit = omega (arith, t .below, t .few); words = omega arith; earlier = t .names }
+    record { bit = omega (arith, t .below, t .few); words = omega (arith, g .M·Map .bounded (c .args .map .now) .size-fits); earlier = t .names }
 
 pub ghost-self : need.ghost-self
 ghost-self g c =
