@@ -1,4 +1,6 @@
 // What a session is asked and what it answers, as values, with what holds of any list of calls.
+#![tactic(auto)]
+
 ghost use Rattle.calls.specs.Claims.{OneAnswer, OneMap};
 
 pub mod call;

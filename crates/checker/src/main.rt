@@ -1,4 +1,6 @@
 // Reads map.txt and rules.txt in the folder that it is run in, and writes the report of all rows, or the line of a fault.
+#![tactic(auto)]
+
 use checking::check::check;
 use std::fs;
 use std::io::Write;

@@ -1,4 +1,6 @@
 // The worked fold: a five-state map onto the four-state map of the worked example, with the facts that are proved of it.
+#![tactic(auto)]
+
 ghost use Rattle.foldrig.specs.Folded.{FoldFacts};
 
 use look::switch::SwitchLook;

@@ -1,5 +1,7 @@
 // Reads folds from standard input, one to a line, and writes what the check says of each; of an accepted one also what two sessions
 // side by side answer. The cases, and what they should give, are written by model.py, which shares no code with the checker.
+#![tactic(auto)]
+
 mod folds;
 mod parse;
 

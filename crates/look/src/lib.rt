@@ -1,4 +1,6 @@
 // What a state shows: signs, numbered from 0, that are on or off, and when two looks of one kind are the same.
+#![tactic(auto)]
+
 ghost use Rattle.std.specs.Prelude.{◌≡◌, ℕ, Bool, true};
 
 pub mod joint;

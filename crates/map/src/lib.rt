@@ -1,4 +1,6 @@
 // Maps by what they answer: the five questions, the meaning that they ask after, and readers for every kind of map.
+#![tactic(auto)]
+
 ghost use Rattle.std.specs.Prelude.{◌≡◌, length};
 ghost use Rattle.map.specs.Counts.{CountLaws};
 ghost use Rattle.map.specs.Meaning.{Meaning, Bounded};

@@ -1,4 +1,6 @@
 // Map texts, read into tables that the caller lends.
+#![tactic(auto)]
+
 pub mod made;
 pub mod progress;
 pub mod read;

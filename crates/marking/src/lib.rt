@@ -1,2 +1,4 @@
 // The labels of one row of a rule list, and its reach.
+#![tactic(auto)]
+
 pub mod rows;

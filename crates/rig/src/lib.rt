@@ -1,4 +1,6 @@
 // The worked example, with the facts that are proved of it, and the cases that are run and compared.
+#![tactic(auto)]
+
 ghost use Rattle.rig.specs.Worked.{WorkedFacts};
 
 use look::level::LevelLook;

@@ -1,2 +1,4 @@
 // Rule texts, read into a session.
+#![tactic(auto)]
+
 pub mod read;

@@ -1,4 +1,6 @@
 // Sessions: rows are added, marked on a map, and asked after. A session's calls are lent its map and its label sheet.
+#![tactic(auto)]
+
 pub mod ask;
 pub mod held;
 pub mod open;

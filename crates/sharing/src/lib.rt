@@ -1,4 +1,6 @@
 // Folds of maps: sessions on a full map and on a folded map, side by side, share their answers and their labels.
+#![tactic(auto)]
+
 ghost use Rattle.sharing.specs.Claims.{FoldsShare, FoldsStand, ChainsStand};
 
 use look::Look;

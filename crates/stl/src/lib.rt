@@ -1,4 +1,6 @@
 // Safe temporal logic over structures: what it speaks of, its rules, and what they mean. The definitions stand in specs/.
+#![tactic(auto)]
+
 ghost use Rattle.stl.specs.Folds.{FoldsKeepRules};
 ghost use Rattle.stl.specs.Formulas.{UntilLaws};
 ghost use Rattle.stl.specs.Runs.{RunLaws};

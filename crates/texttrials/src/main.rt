@@ -1,5 +1,7 @@
 // Reads cases from standard input, one to a line, and writes what each gives. The cases, and what they should give, are written
 // by model.py from the rules of the formats; it shares nothing with the checker.
+#![tactic(auto)]
+
 mod cases;
 mod coded;
 mod maps;

@@ -1,4 +1,6 @@
 // A tour of the checker: one real task from start to finish, told as it goes.
+#![tactic(auto)]
+
 mod broken;
 mod kinds;
 mod refusals;

@@ -1,3 +1,5 @@
 // Sessions that are run on many small maps and compared with a plain model.
+#![tactic(auto)]
+
 #[cfg(test)]
 mod tests;
