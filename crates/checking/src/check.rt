@@ -22,9 +22,9 @@ use writing::fault::SaveFault;
 
 // Marks the rows of a session, and writes the report; how many bytes it has.
 fn write_report<M: Map>(session: &mut Session, map: &M, sheet: &mut [u64], out: &mut [u8]) -> usize
-    requires kept { Kept (structure M.L.Look.sign (meaning map.now)) (state session.old) sheet.old }
+    requires kept { Kept (structure M.L.Look.sign (M.meaning map.now)) (state session.old) sheet.old }
     requires room { 1024 ≤ length out.old }
-    ensures { Wrote (ReportByLogic (structure M.L.Look.sign (meaning map.now)) (state session.old).rows) out.old out.new result }
+    ensures { Wrote (ReportByLogic (structure M.L.Look.sign (M.meaning map.now)) (state session.old).rows) out.old out.new result }
 {
     mark_all(session, map, sheet);
     match report(session, map, sheet, out) {
@@ -36,9 +36,9 @@ fn write_report<M: Map>(session: &mut Session, map: &M, sheet: &mut [u64], out: 
 // Writes what there is to say of a map and a rule text; how many bytes it has.
 fn check_map<M: Map>(map: &M, rules: &[u8], sheet: &mut [u64], out: &mut [u8]) -> usize
     requires words { length sheet.old ≡ 1024 }
-    requires small { (meaning map.now).size ≤ 1024 }
+    requires small { (M.meaning map.now).size ≤ 1024 }
     requires room { 1024 ≤ length out.old }
-    ensures { Wrote (OfMap (structure M.L.Look.sign (meaning map.now)) rules.now) out.old out.new result }
+    ensures { Wrote (OfMap (structure M.L.Look.sign (M.meaning map.now)) rules.now) out.old out.new result }
 {
     match Session::open(map, sheet) {
         Err(fault) => write_fault(out, b'-', fault.number(), 0, 0),

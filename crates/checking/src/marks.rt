@@ -10,8 +10,8 @@ use session::held::Session;
 
 // Marks every row that is not marked yet.
 pub(crate) fn mark_all<M: Map>(session: &mut Session, map: &M, sheet: &mut [u64])
-    requires { Kept (structure M.L.Look.sign (meaning map.now)) (state session.old) sheet.old }
-    ensures { AllMarked (structure M.L.Look.sign (meaning map.now)) (state session.old).rows (state session.new) sheet.new }
+    requires { Kept (structure M.L.Look.sign (M.meaning map.now)) (state session.old) sheet.old }
+    ensures { AllMarked (structure M.L.Look.sign (M.meaning map.now)) (state session.old).rows (state session.new) sheet.new }
 {
     while let Ok(_) = session.mark(map, sheet) {}
 }

@@ -30,8 +30,8 @@ pub fn ask_through<G: Map>(
     s: u32,
     r: u32,
 ) -> Result<bool, SessionFault>
-    ensures label { result ≡ asked (meaning folded.now).size sheet.now fold.now.table.now (state session.now).marked s r }
-    ensures logic { SpeaksOfFull M.L.Look.sign M.L.Look.same (meaning folded.now) fold.now.table.now (state session.now) sheet.now s r result }
+    ensures label { result ≡ asked (G.meaning folded.now).size sheet.now fold.now.table.now (state session.now).marked s r }
+    ensures logic { SpeaksOfFull G.L.Look.sign G.L.Look.same (G.meaning folded.now) fold.now.table.now (state session.now) sheet.now s r result }
 {
     session.label(folded, sheet, class_or_none(fold, s), r)
 }

@@ -28,9 +28,9 @@ pub(crate) enum Question {
 
 // Entry k of the list of s.
 fn target<M: Map>(map: &M, s: u32, k: u32) -> u32
-    requires { k < length ((meaning map.now).list s) }
-    ensures entry { result ≡ slice_index ((meaning map.now).list s) k }
-    ensures state { result < (meaning map.now).size }
+    requires { k < length ((M.meaning map.now).list s) }
+    ensures entry { result ≡ slice_index ((M.meaning map.now).list s) k }
+    ensures state { result < (M.meaning map.now).size }
 {
     map.entry(s, k).unwrap()
 }
@@ -62,8 +62,8 @@ fn moves_forth<F: Map, G: Map<L = F::L>>(full: &F, folded: &G, classes: &[u32], 
 
 // Whether s moves to a state of class d.
 fn moves_into<F: Map>(full: &F, classes: &[u32], s: u32, d: u32) -> bool
-    requires { length classes.now ≡ (meaning full.now).size }
-    ensures { Decides result (MovesInto M.L.Look.sign (meaning full.now) classes.now s d) }
+    requires { length classes.now ≡ (F.meaning full.now).size }
+    ensures { Decides result (MovesInto F.L.Look.sign (F.meaning full.now) classes.now s d) }
 {
     for k in 0..full.list_len(s) {
         let t = target(full, s, k);
@@ -92,8 +92,8 @@ fn moves_back<F: Map, G: Map<L = F::L>>(full: &F, folded: &G, classes: &[u32], s
 
 // Whether a start has class d.
 fn has_start<F: Map>(full: &F, classes: &[u32], d: u32) -> bool
-    requires { length classes.now ≡ (meaning full.now).size }
-    ensures { Decides result ((s : ℕ) × (s < (meaning full.now).size) × ((meaning full.now).start s ≡ true) × (class_of classes.now s ≡ d)) }
+    requires { length classes.now ≡ (F.meaning full.now).size }
+    ensures { Decides result ((s : ℕ) × (s < (F.meaning full.now).size) × ((F.meaning full.now).start s ≡ true) × (class_of classes.now s ≡ d)) }
 {
     for s in 0..full.size() {
         if full.is_start(s) && classes[s as usize] == d {

@@ -9,12 +9,12 @@ use map::Map;
 
 // Writes a run from s down the table, s first, into the first entries of `run`.
 pub fn write_run<M: Map>(map: &M, s: u32, work: &[u32], run: &mut [u32])
-    requires state { s < (meaning map.now).size }
-    requires entries { (meaning map.now).size ≤ length work.now }
+    requires state { s < (M.meaning map.now).size }
+    requires entries { (M.meaning map.now).size ≤ length work.now }
     requires some { slice_index work.now s < 4294967295 }
     requires room { slice_index work.now s < length run.old }
-    requires falls { Falls (structure M.L.Look.sign (meaning map.now)) work.now }
-    ensures { Drawn (structure M.L.Look.sign (meaning map.now)) work.now s run.old run.new }
+    requires falls { Falls (structure M.L.Look.sign (M.meaning map.now)) work.now }
+    ensures { Drawn (structure M.L.Look.sign (M.meaning map.now)) work.now s run.old run.new }
 {
     run[0] = s;
     let mut at = s;

@@ -9,7 +9,7 @@ use look::Look;
 
 // Whether sign k is on at s; at a state that is not there it is off.
 pub fn sign_at<M: Map>(map: &M, s: u32, k: u16) -> bool
-    ensures { result ≡ (structure M.L.Look.sign (meaning map.now)).on s k }
+    ensures { result ≡ (structure M.L.Look.sign (M.meaning map.now)).on s k }
 {
     match map.look_of(s) {
         Some(look) => look.shows(k),
@@ -19,7 +19,7 @@ pub fn sign_at<M: Map>(map: &M, s: u32, k: u16) -> bool
 
 // Whether there is a move from s to t.
 pub fn moves_to<M: Map>(map: &M, s: u32, t: u32) -> bool
-    ensures { Decides result (Move (structure M.L.Look.sign (meaning map.now)) s t) }
+    ensures { Decides result (Move (structure M.L.Look.sign (M.meaning map.now)) s t) }
 {
     for k in 0..map.list_len(s) {
         if let Some(target) = map.entry(s, k) {
@@ -33,7 +33,7 @@ pub fn moves_to<M: Map>(map: &M, s: u32, t: u32) -> bool
 
 // The length of the longest list.
 pub fn longest_list<M: Map>(map: &M) -> u32
-    ensures { result ≡ longest (meaning map.now) }
+    ensures { result ≡ longest (M.meaning map.now) }
 {
     let mut most: u32 = 0;
     for s in 0..map.size() {
@@ -44,5 +44,5 @@ pub fn longest_list<M: Map>(map: &M) -> u32
 
 // Every map's structure is well formed: its starts and its targets are states.
 pub fn stays_within<M: Map>(map: &M)
-    ensures { WellFormed (structure M.L.Look.sign (meaning map.now)) }
+    ensures { WellFormed (structure M.L.Look.sign (M.meaning map.now)) }
 {}

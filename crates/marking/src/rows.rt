@@ -17,8 +17,8 @@ use stl::row::Row;
 // Whether a move from s leads to a state with the label of row a.
 fn some_move<M: Map>(map: &M, sheet: &[u64], a: u32, s: u32) -> bool
     requires row { a < 64 }
-    requires words { (meaning map.now).size ≤ length sheet.now }
-    ensures { (result ≡ true) ⇔ ((t : ℕ) × Move (structure M.L.Look.sign (meaning map.now)) s t × by_sheet sheet.now a t) }
+    requires words { (M.meaning map.now).size ≤ length sheet.now }
+    ensures { (result ≡ true) ⇔ ((t : ℕ) × Move (structure M.L.Look.sign (M.meaning map.now)) s t × by_sheet sheet.now a t) }
 {
     for k in 0..map.list_len(s) {
         if let Some(t) = map.entry(s, k) {
@@ -32,12 +32,12 @@ fn some_move<M: Map>(map: &M, sheet: &[u64], a: u32, s: u32) -> bool
 
 // Whether the row is satisfied at s. An until is read off the table of its lengths.
 fn satisfied<M: Map>(map: &M, sheet: &[u64], work: &[u32], row: Row, s: u32) -> bool
-    requires state { s < (meaning map.now).size }
-    requires words { (meaning map.now).size ≤ length sheet.now }
-    requires entries { (meaning map.now).size ≤ length work.now }
+    requires state { s < (M.meaning map.now).size }
+    requires words { (M.meaning map.now).size ≤ length sheet.now }
+    requires entries { (M.meaning map.now).size ≤ length work.now }
     requires earlier { named row 64 ≡ true }
-    requires timed { Timed (structure M.L.Look.sign (meaning map.now)) sheet.now work.now row }
-    ensures { (result ≡ true) ⇔ Satisfied (structure M.L.Look.sign (meaning map.now)) (by_sheet sheet.now) row s }
+    requires timed { Timed (structure M.L.Look.sign (M.meaning map.now)) sheet.now work.now row }
+    ensures { (result ≡ true) ⇔ Satisfied (structure M.L.Look.sign (M.meaning map.now)) (by_sheet sheet.now) row s }
 {
     match row {
         Row::True => true,
@@ -52,11 +52,11 @@ fn satisfied<M: Map>(map: &M, sheet: &[u64], work: &[u32], row: Row, s: u32) -> 
 // Writes bit r of each word: whether the row is satisfied at its state.
 fn write_row<M: Map>(map: &M, sheet: &mut [u64], r: u32, row: Row, work: &[u32])
     requires bit { r < 64 }
-    requires words { (meaning map.now).size ≤ length sheet.old }
-    requires entries { (meaning map.now).size ≤ length work.now }
+    requires words { (M.meaning map.now).size ≤ length sheet.old }
+    requires entries { (M.meaning map.now).size ≤ length work.now }
     requires earlier { named row r ≡ true }
-    requires timed { Timed (structure M.L.Look.sign (meaning map.now)) sheet.old work.now row }
-    ensures { Labelled (structure M.L.Look.sign (meaning map.now)) sheet.old r row (meaning map.now).size sheet.new }
+    requires timed { Timed (structure M.L.Look.sign (M.meaning map.now)) sheet.old work.now row }
+    ensures { Labelled (structure M.L.Look.sign (M.meaning map.now)) sheet.old r row (M.meaning map.now).size sheet.new }
 {
     for s in 0..map.size() {
         let b = satisfied(map, sheet, work, row, s);
@@ -67,10 +67,10 @@ fn write_row<M: Map>(map: &M, sheet: &mut [u64], r: u32, row: Row, work: &[u32])
 // Gives row r its labels, and answers its reach. The lengths of an until stand in a table of its own.
 pub fn mark_row<M: Map>(map: &M, sheet: &mut [u64], r: u32, row: Row) -> u32
     requires bit { r < 64 }
-    requires words { (meaning map.now).size ≤ length sheet.old }
+    requires words { (M.meaning map.now).size ≤ length sheet.old }
     requires earlier { named row r ≡ true }
-    ensures labels { Labelled (structure M.L.Look.sign (meaning map.now)) sheet.old r row (meaning map.now).size sheet.new }
-    ensures reach { Reach (structure M.L.Look.sign (meaning map.now)) (by_sheet sheet.old) row result }
+    ensures labels { Labelled (structure M.L.Look.sign (M.meaning map.now)) sheet.old r row (M.meaning map.now).size sheet.new }
+    ensures reach { Reach (structure M.L.Look.sign (M.meaning map.now)) (by_sheet sheet.old) row result }
 {
     let mut work = [NONE; 4096];
     let reach = match row {

@@ -17,9 +17,9 @@ pub(crate) const NOTHING: Found = Found {
 
 // The verdict and the reach of the marked row r, neither of which is refused.
 fn found_of<M: Map>(session: &Session, map: &M, sheet: &[u64], r: u32) -> Found
-    requires words { (meaning map.now).size ≤ length sheet.now }
+    requires words { (M.meaning map.now).size ≤ length sheet.now }
     requires marked { r < (state session.now).marked }
-    ensures { Right (structure M.L.Look.sign (meaning map.now)) (state session.now).rows sheet.now r result }
+    ensures { Right (structure M.L.Look.sign (M.meaning map.now)) (state session.now).rows sheet.now r result }
 {
     let Ok(yes) = session.verdict(map, sheet, r) else {
         return NOTHING;
@@ -32,9 +32,9 @@ fn found_of<M: Map>(session: &Session, map: &M, sheet: &[u64], r: u32) -> Found
 
 // Fills the first entries with the results of the marked rows.
 pub(crate) fn collect<M: Map>(session: &Session, map: &M, sheet: &[u64], finds: &mut [Found])
-    requires words { (meaning map.now).size ≤ length sheet.now }
+    requires words { (M.meaning map.now).size ≤ length sheet.now }
     requires entries { (state session.now).marked ≤ length finds.old }
-    ensures { Collected (structure M.L.Look.sign (meaning map.now)) (state session.now).rows sheet.now (state session.now).marked finds.new }
+    ensures { Collected (structure M.L.Look.sign (M.meaning map.now)) (state session.now).rows sheet.now (state session.now).marked finds.new }
 {
     for r in 0..session.marked() {
         finds[r as usize] = found_of(session, map, sheet, r);

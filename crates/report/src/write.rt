@@ -34,7 +34,7 @@ pub fn report<M: Map>(
     sheet: &[u64],
     out: &mut [u8],
 ) -> Result<usize, ReportFault>
-    ensures reports { Reports (structure M.L.Look.sign (meaning map.now)) (state session.now) sheet.now out.old out.new result }
+    ensures reports { Reports (structure M.L.Look.sign (M.meaning map.now)) (state session.now) sheet.now out.old out.new result }
     ensures fits { Fits out.old result }
 {
     if sheet.len() < map.size() as usize {

@@ -19,8 +19,8 @@ fn take_rule<M: Map>(
     sheet: &[u64],
     line: Line,
 ) -> Result<(), Trouble>
-    ensures taken { rule_taken result (state session.new) ≡ rule_step (structure M.L.Look.sign (meaning map.now)) (length sheet.now) (state session.old) line }
-    ensures keeps { Keeps (structure M.L.Look.sign (meaning map.now)) sheet.now (state session.old) (state session.new) }
+    ensures taken { rule_taken result (state session.new) ≡ rule_step (structure M.L.Look.sign (M.meaning map.now)) (length sheet.now) (state session.old) line }
+    ensures keeps { Keeps (structure M.L.Look.sign (M.meaning map.now)) sheet.now (state session.old) (state session.new) }
 {
     if stand(Place::InRules, line).is_none() {
         return Err(Trouble::OutOfPlace);
@@ -42,9 +42,9 @@ pub fn read_rules<M: Map>(
     map: &M,
     sheet: &[u64],
 ) -> Result<(), TextFault>
-    ensures answer { result ≡ rule_answer (rule_read (structure M.L.Look.sign (meaning map.now)) (length sheet.now) (state session.old) text.now).fault }
-    ensures kept { state session.new ≡ (rule_read (structure M.L.Look.sign (meaning map.now)) (length sheet.now) (state session.old) text.now).left }
-    ensures keeps { Keeps (structure M.L.Look.sign (meaning map.now)) sheet.now (state session.old) (state session.new) }
+    ensures answer { result ≡ rule_answer (rule_read (structure M.L.Look.sign (M.meaning map.now)) (length sheet.now) (state session.old) text.now).fault }
+    ensures kept { state session.new ≡ (rule_read (structure M.L.Look.sign (M.meaning map.now)) (length sheet.now) (state session.old) text.now).left }
+    ensures keeps { Keeps (structure M.L.Look.sign (M.meaning map.now)) sheet.now (state session.old) (state session.new) }
 {
     if text.len() > 60_000 {
         return Err(TextFault {

@@ -34,8 +34,8 @@ fn start_of(start: bool) -> u8
 
 // The line of s.
 fn state_line<M: Map<L = SwitchLook>>(map: &M, s: u32) -> Line
-    ensures is { result ≡ line.State (marks_of ((meaning map.now).look s)) (start_of ((meaning map.now).start s)) }
-    ensures fits { marks_of ((meaning map.now).look s) < 2 ^ 32 }
+    ensures is { result ≡ line.State (marks_of ((M.meaning map.now).look s)) (start_of ((M.meaning map.now).start s)) }
+    ensures fits { marks_of ((M.meaning map.now).look s) < 2 ^ 32 }
 {
     Line::State(marks_of(map.look_of(s)), start_of(map.is_start(s)))
 }
@@ -49,8 +49,8 @@ fn put_target<M: Map<L = SwitchLook>>(
     out: &mut [u8],
     at: usize,
 ) -> Option<usize>
-    requires { k < length ((meaning map.now).list s) }
-    ensures { Put pen out.old at (ended (line.Target (slice_index ((meaning map.now).list s) k))) out.new result }
+    requires { k < length ((M.meaning map.now).list s) }
+    ensures { Put pen out.old at (ended (line.Target (slice_index ((M.meaning map.now).list s) k))) out.new result }
 {
     let target = map.entry(s, k)?;
     put_line(pen, out, at, Line::Target(target))
@@ -65,7 +65,7 @@ fn put_targets<M: Map<L = SwitchLook>>(
     mut at: usize,
 ) -> Option<usize>
     requires { at ≤ length out.old }
-    ensures { Put pen out.old at (written_text (list-map line.Target ((meaning map.now).list s))) out.new result }
+    ensures { Put pen out.old at (written_text (list-map line.Target ((M.meaning map.now).list s))) out.new result }
 {
     for k in 0..map.list_len(s) {
         at = put_target(pen, map, s, k, out, at)?;
@@ -81,8 +81,8 @@ fn put_state<M: Map<L = SwitchLook>>(
     out: &mut [u8],
     at: usize,
 ) -> Option<usize>
-    ensures put { Put pen out.old at (written_text (lines_of (meaning map.now) s)) out.new result }
-    ensures fits { marks_of ((meaning map.now).look s) < 2 ^ 32 }
+    ensures put { Put pen out.old at (written_text (lines_of (M.meaning map.now) s)) out.new result }
+    ensures fits { marks_of ((M.meaning map.now).look s) < 2 ^ 32 }
 {
     let next = put_line(pen, out, at, state_line(map, s))?;
     put_targets(pen, map, s, out, next)
@@ -96,8 +96,8 @@ fn put_states<M: Map<L = SwitchLook>>(
     mut at: usize,
 ) -> Option<usize>
     requires { at ≤ length out.old }
-    ensures fit { OnSome result (LooksFit (meaning map.now)) }
-    ensures put { Put pen out.old at (written_text (first_states (meaning map.now) (meaning map.now).size)) out.new result }
+    ensures fit { OnSome result (LooksFit (M.meaning map.now)) }
+    ensures put { Put pen out.old at (written_text (first_states (M.meaning map.now) (M.meaning map.now).size)) out.new result }
 {
     for s in 0..map.size() {
         at = put_state(pen, map, s, out, at)?;
@@ -107,8 +107,8 @@ fn put_states<M: Map<L = SwitchLook>>(
 
 // Puts the lines of a map.
 fn put_map<M: Map<L = SwitchLook>>(pen: Pen, map: &M, out: &mut [u8]) -> Option<usize>
-    ensures fit { OnSome result (LooksFit (meaning map.now)) }
-    ensures put { Put pen out.old 0 (map_text (meaning map.now)) out.new result }
+    ensures fit { OnSome result (LooksFit (M.meaning map.now)) }
+    ensures put { Put pen out.old 0 (map_text (M.meaning map.now)) out.new result }
 {
     let next = put_line(pen, out, 0, Line::Map(map.size()))?;
     put_states(pen, map, out, next)
@@ -116,9 +116,9 @@ fn put_map<M: Map<L = SwitchLook>>(pen: Pen, map: &M, out: &mut [u8]) -> Option<
 
 // Saves the text of a map whose looks are switch looks: its length, or no room and nothing written. The text reads back as the map.
 pub fn write_map<M: Map<L = SwitchLook>>(map: &M, out: &mut [u8]) -> Result<usize, SaveFault>
-    ensures saved { Saved (map_text (meaning map.now)) out.old out.new result }
-    ensures reads_back { MapReadsBack (meaning map.now) }
-    ensures looks_fit { OnOk result (LooksFit (meaning map.now)) }
+    ensures saved { Saved (map_text (M.meaning map.now)) out.old out.new result }
+    ensures reads_back { MapReadsBack (M.meaning map.now) }
+    ensures looks_fit { OnOk result (LooksFit (M.meaning map.now)) }
 {
     match put_map(Pen::Counts, map, out) {
         None => Err(SaveFault::NoRoom),

@@ -17,8 +17,8 @@ use map::Map;
 // Whether every start has the label of row r.
 fn all_starts<M: Map>(map: &M, sheet: &[u64], r: u32) -> bool
     requires row { r < 64 }
-    requires words { (meaning map.now).size ≤ length sheet.now }
-    ensures { (result ≡ true) ⇔ ((s : ℕ) → (meaning map.now).start s ≡ true → by_sheet sheet.now r s) }
+    requires words { (M.meaning map.now).size ≤ length sheet.now }
+    ensures { (result ≡ true) ⇔ ((s : ℕ) → (M.meaning map.now).start s ≡ true → by_sheet sheet.now r s) }
 {
     for s in 0..map.size() {
         if map.is_start(s) && !labelled(sheet, r, s) {
@@ -37,7 +37,7 @@ impl Session {
         s: u32,
         r: u32,
     ) -> Result<bool, SessionFault>
-        ensures { Gives (structure M.L.Look.sign (meaning map.now)) (state self.now) (alone sheet.now) (call.Label s r) (answered answer.Label result) (state self.now) (alone sheet.now) }
+        ensures { Gives (structure M.L.Look.sign (M.meaning map.now)) (state self.now) (alone sheet.now) (call.Label s r) (answered answer.Label result) (state self.now) (alone sheet.now) }
     {
         let n = map.size();
         if sheet.len() < n as usize {
@@ -54,7 +54,7 @@ impl Session {
 
     // Whether every start has the label of row r; so also where there is no start.
     pub fn verdict<M: Map>(&self, map: &M, sheet: &[u64], r: u32) -> Result<bool, SessionFault>
-        ensures { Gives (structure M.L.Look.sign (meaning map.now)) (state self.now) (alone sheet.now) (call.Verdict r) (answered answer.Verdict result) (state self.now) (alone sheet.now) }
+        ensures { Gives (structure M.L.Look.sign (M.meaning map.now)) (state self.now) (alone sheet.now) (call.Verdict r) (answered answer.Verdict result) (state self.now) (alone sheet.now) }
     {
         if sheet.len() < map.size() as usize {
             return Err(SessionFault::ShortSheet);

@@ -13,8 +13,8 @@ use rules::list::RuleList;
 
 // Sets the word of each state to 0.
 fn clear<M: Map>(map: &M, sheet: &mut [u64])
-    requires { (meaning map.now).size ≤ length sheet.old }
-    ensures { Cleared (meaning map.now).size sheet.old sheet.new }
+    requires { (M.meaning map.now).size ≤ length sheet.old }
+    ensures { Cleared (M.meaning map.now).size sheet.old sheet.new }
 {
     for s in 0..map.size() {
         sheet[s as usize] = 0;
@@ -24,8 +24,8 @@ fn clear<M: Map>(map: &M, sheet: &mut [u64])
 impl Session {
     // A session without rows on the map, and a sheet without labels.
     pub fn open<M: Map>(map: &M, sheet: &mut [u64]) -> Result<Session, SessionFault>
-        ensures opens { Opens (structure M.L.Look.sign (meaning map.now)) sheet.old (kept result) sheet.new }
-        ensures begins { Begins (structure M.L.Look.sign (meaning map.now)) (kept result) sheet.new }
+        ensures opens { Opens (structure M.L.Look.sign (M.meaning map.now)) sheet.old (kept result) sheet.new }
+        ensures begins { Begins (structure M.L.Look.sign (M.meaning map.now)) (kept result) sheet.new }
     {
         if map.size() == 0 {
             return Err(SessionFault::NoState);

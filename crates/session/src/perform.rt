@@ -19,7 +19,7 @@ impl Session {
         run: &mut [u32],
         asked: Call,
     ) -> Answer
-        ensures { Gives (structure M.L.Look.sign (meaning map.now)) (state self.old) (tables sheet.old work.old run.old) asked result (state self.new) (tables sheet.new work.new run.new) }
+        ensures { Gives (structure M.L.Look.sign (M.meaning map.now)) (state self.old) (tables sheet.old work.old run.old) asked result (state self.new) (tables sheet.new work.new run.new) }
     {
         match asked {
             Call::Add(row) => match self.add(map, sheet, row) {
@@ -56,8 +56,8 @@ impl Session {
         run: &mut [u32],
         asked: Call,
     ) -> Answer
-        ensures gives { Gives (structure M.L.Look.sign (meaning map.now)) (state self.old) (tables sheet.old work.old run.old) asked result (state self.new) (tables sheet.new work.new run.new) }
-        ensures logic { AfterAnyCalls (structure M.L.Look.sign (meaning map.now)) (moment (state self.old) (tables sheet.old work.old run.old) asked result (state self.new) (tables sheet.new work.new run.new)) }
+        ensures gives { Gives (structure M.L.Look.sign (M.meaning map.now)) (state self.old) (tables sheet.old work.old run.old) asked result (state self.new) (tables sheet.new work.new run.new) }
+        ensures logic { AfterAnyCalls (structure M.L.Look.sign (M.meaning map.now)) (moment (state self.old) (tables sheet.old work.old run.old) asked result (state self.new) (tables sheet.new work.new run.new)) }
         ensures always { OneMap }
     {
         self.make(map, sheet, work, run, asked)

@@ -28,7 +28,7 @@ impl Session {
 
     // The reach of the marked row r, by the labels of its operands that are in the sheet now.
     pub fn reach<M: Map>(&self, map: &M, sheet: &[u64], r: u32) -> Result<u32, SessionFault>
-        ensures { ReachAnswers (structure M.L.Look.sign (meaning map.now)) (state self.now) sheet.now r result }
+        ensures { ReachAnswers (structure M.L.Look.sign (M.meaning map.now)) (state self.now) sheet.now r result }
     {
         if sheet.len() < map.size() as usize {
             return Err(SessionFault::ShortSheet);

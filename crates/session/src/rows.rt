@@ -24,7 +24,7 @@ pub struct Marked {
 impl Session {
     // Appends the row, and answers its number.
     pub fn add<M: Map>(&mut self, map: &M, sheet: &[u64], row: Row) -> Result<u32, SessionFault>
-        ensures { Gives (structure M.L.Look.sign (meaning map.now)) (state self.old) (alone sheet.now) (call.Add row) (answered answer.Added result) (state self.new) (alone sheet.now) }
+        ensures { Gives (structure M.L.Look.sign (M.meaning map.now)) (state self.old) (alone sheet.now) (call.Add row) (answered answer.Added result) (state self.new) (alone sheet.now) }
     {
         if sheet.len() < map.size() as usize {
             return Err(SessionFault::ShortSheet);
@@ -45,8 +45,8 @@ impl Session {
 
     // Gives the next row its labels, and answers the row and its reach.
     pub fn mark<M: Map>(&mut self, map: &M, sheet: &mut [u64]) -> Result<Marked, SessionFault>
-        ensures gives { Gives (structure M.L.Look.sign (meaning map.now)) (state self.old) (alone sheet.old) call.Mark (answered marking result) (state self.new) (alone sheet.new) }
-        ensures below { ReachBelow (meaning map.now).size result }
+        ensures gives { Gives (structure M.L.Look.sign (M.meaning map.now)) (state self.old) (alone sheet.old) call.Mark (answered marking result) (state self.new) (alone sheet.new) }
+        ensures below { ReachBelow (M.meaning map.now).size result }
     {
         if sheet.len() < map.size() as usize {
             return Err(SessionFault::ShortSheet);

@@ -27,13 +27,13 @@ fn show_run<M: Map>(
     work: &mut [u32],
     run: &mut [u32],
 ) -> Result<u32, SessionFault>
-    requires state { s < (meaning map.now).size }
+    requires state { s < (M.meaning map.now).size }
     requires left { a < 64 }
     requires right { b < 64 }
-    requires words { (meaning map.now).size ≤ length sheet.now }
-    requires entries { (meaning map.now).size ≤ length work.old }
-    ensures found { Found (structure M.L.Look.sign (meaning map.now)) (by_sheet sheet.now a) (by_sheet sheet.now b) s (length run.old) (answered answer.Witness result) }
-    ensures sought { Sought (structure M.L.Look.sign (meaning map.now)) (by_sheet sheet.now a) (by_sheet sheet.now b) s (tables sheet.now work.old run.old) (tables sheet.now work.new run.new) (answered answer.Witness result) }
+    requires words { (M.meaning map.now).size ≤ length sheet.now }
+    requires entries { (M.meaning map.now).size ≤ length work.old }
+    ensures found { Found (structure M.L.Look.sign (M.meaning map.now)) (by_sheet sheet.now a) (by_sheet sheet.now b) s (length run.old) (answered answer.Witness result) }
+    ensures sought { Sought (structure M.L.Look.sign (M.meaning map.now)) (by_sheet sheet.now a) (by_sheet sheet.now b) s (tables sheet.now work.old run.old) (tables sheet.now work.new run.new) (answered answer.Witness result) }
 {
     lengths(map, sheet, a, b, work);
     let length = work[s as usize];
@@ -73,7 +73,7 @@ impl Session {
         work: &mut [u32],
         run: &mut [u32],
     ) -> Result<u32, SessionFault>
-        ensures { Gives (structure M.L.Look.sign (meaning map.now)) (state self.now) (tables sheet.now work.old run.old) (call.Witness s r) (answered answer.Witness result) (state self.now) (tables sheet.now work.new run.new) }
+        ensures { Gives (structure M.L.Look.sign (M.meaning map.now)) (state self.now) (tables sheet.now work.old run.old) (call.Witness s r) (answered answer.Witness result) (state self.now) (tables sheet.now work.new run.new) }
     {
         let n = map.size();
         if sheet.len() < n as usize {

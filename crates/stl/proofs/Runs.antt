@@ -1,6 +1,6 @@
 -- Runs, one move at a time. Assumes nothing.
 use Rattle.std.proofs.Common.{◌≡◌, ℕ, ◌<◌, List, [], ◌∷◌, ◌++◌, refl}
-use Rattle.stl.specs.Structures.{Structure, Move, WellFormed}
+use Rattle.stl.specs.Structures.{Structure, WellFormed}
 use Rattle.stl.specs.Runs.{Run, last, All, RunLaws}
 
 joined : (k : Structure) (s : ℕ) (xs ys : List ℕ) → Run k s xs → Run k (last s xs) ys → Run k s (xs ++ ys)

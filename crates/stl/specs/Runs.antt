@@ -1,5 +1,5 @@
 -- Runs: non-empty lists of states joined by moves. Assumes nothing.
-use Rattle.std.specs.Prelude.{◌≡◌, ℕ, ◌+◌, ◌<◌, List, [], ◌∷◌, ◌++◌, length}
+use Rattle.std.specs.Prelude.{◌≡◌, ℕ, ◌<◌, List, [], ◌∷◌, ◌++◌}
 use Rattle.stl.specs.Structures.{Structure, Move, WellFormed}
 
 -- s and then the states of rest are a run; its length, in moves, is the length of rest

@@ -1,7 +1,7 @@
-use Rattle.std.proofs.Common.{◌≡◌, ◌<◌, length, sym, refl, ◌∙◌, rules, below_more}
+use Rattle.std.proofs.Common.{◌<◌, length, sym, refl, ◌∙◌, rules, below_more}
 use Rattle.map.proofs.Moves.{entry_is, entry_there}
 use Rattle.map.proofs.read.moves_to.Goals as goal
-use Rattle.map.proofs.read.moves_to.Goals.{in-Some+else-target-t, in-default}
+use Rattle.map.proofs.read.moves_to.Goals.{in-Some+else-target-t, in_default}
 
 pub returns-then-target-t : goal.returns-then-target-t
 returns-then-target-t g c =
@@ -15,5 +15,5 @@ loop-k-preserved g c =
     let h : c.loop-k.k < length xs = search rules in
     elim c.match-entry.branch [
       | in-Some+else-target-t w ↦ below_more _ _ c.loop-k.invariant (λ e. w.if-target-t.false (entry_is xs _ _ c.entry.result h c.entry.ensures w.in-Some.is ∙ e))
-      | in-default w ↦ absurd (entry_there xs _ c.entry.result h c.entry.ensures w.in-default.is)
+      | in_default w ↦ absurd (entry_there xs _ c.entry.result h c.entry.ensures w.in_default.is)
     ]
