@@ -11,7 +11,7 @@ use Rattle.lengths.proofs.rounds.first_round.Goals.{then-labelled, else-labelled
 pub loop-s-preserved : goal.loop-s-preserved
 loop-s-preserved g c =
     let s = c.loop-s.s in
-    let known = Known (structure g.L.Look.sign (g.M.Map.meaning c.args.map.now)) (by_sheet c.args.sheet.now c.args.a) (by_sheet c.args.sheet.now c.args.b) 0 s in
+    let known = Known (structure g.M.L.Look.sign (g.M.Map.meaning c.args.map.now)) (by_sheet c.args.sheet.now c.args.a) (by_sheet c.args.sheet.now c.args.b) 0 s in
     let h : s < length c.loop-s.work = omega arith in
     begun_more c.loop-s.invariant h
     (elim c.if-labelled.branch [

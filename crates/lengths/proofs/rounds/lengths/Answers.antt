@@ -5,25 +5,25 @@ use Rattle.lengths.proofs.Filling.{running_none, running_more, running_small, ru
 use Rattle.lengths.proofs.rounds.lengths.Goals as goal
 
 pub loop-d-init : goal.loop-d-init
-loop-d-init g c = running_none c.first-round.ensures
+loop-d-init g c = running_none c.first_round.ensures
 
-pub one-round-requires : goal.one-round-requires
-one-round-requires g c =
+pub one_round-requires : goal.one_round-requires
+one_round-requires g c =
     let fits = g.M.Map.bounded c.args.map.now in
-    let d = running_small (well_formed g.L.Look.sign _ fits) c.loop-d.invariant in
+    let d = running_small (well_formed g.M.L.Look.sign _ fits) c.loop-d.invariant in
     record { row = c.requires.left; words = c.requires.words; entries = omega arith; small = omega (arith, d, fits.size_fits); round = c.loop-d.invariant.round }
 
-pub overflow-add-d : goal.overflow-add-d
-overflow-add-d g c =
+pub overflow_add-d : goal.overflow_add-d
+overflow_add-d g c =
     let fits = g.M.Map.bounded c.args.map.now in
-    let l : c.loop-d.d ≤ 4096 = omega (arith, running_small (well_formed g.L.Look.sign _ fits) c.loop-d.invariant, fits.size_fits) in
+    let l : c.loop-d.d ≤ 4096 = omega (arith, running_small (well_formed g.M.L.Look.sign _ fits) c.loop-d.invariant, fits.size_fits) in
     omega arith
 
 pub loop-d-smaller : goal.loop-d-smaller
 loop-d-smaller g c =
     let fits = g.M.Map.bounded c.args.map.now in
     let more = running_more c.loop-d.invariant c.loop-d-test.ensures in
-    let d : c.loop-d.d + 1 ≤ (g.M.Map.meaning c.args.map.now).size = running_small (well_formed g.L.Look.sign _ fits) more in
+    let d : c.loop-d.d + 1 ≤ (g.M.Map.meaning c.args.map.now).size = running_small (well_formed g.M.L.Look.sign _ fits) more in
     omega arith
 
 pub loop-d-preserved : goal.loop-d-preserved
@@ -31,11 +31,11 @@ loop-d-preserved g c = running_more c.loop-d.invariant c.loop-d-test.ensures
 
 pub returns : goal.returns
 returns g c =
-    let shut = well_formed g.L.Look.sign _ (g.M.Map.bounded c.args.map.now) in
+    let shut = well_formed g.M.L.Look.sign _ (g.M.Map.bounded c.args.map.now) in
     let swept = c.loop-d-test.ensures in
     let most = running_greatest shut c.loop-d.invariant swept in
     record {
-      filled = running_filled shut c.first-round.ensures c.loop-d.invariant swept;
+      filled = running_filled shut c.first_round.ensures c.loop-d.invariant swept;
       greatest = most;
       below = greatest_below _ _ _ shut _ most;
     }

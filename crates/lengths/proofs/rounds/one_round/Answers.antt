@@ -11,7 +11,7 @@ loop-s-init g c = sweep_none c.requires.round
 pub loop-s-preserved : goal.loop-s-preserved
 loop-s-preserved g c =
     let size = (g.M.Map.meaning c.args.map.now).size in
-    let shut = well_formed g.L.Look.sign _ (g.M.Map.bounded c.args.map.now) in
+    let shut = well_formed g.M.L.Look.sign _ (g.M.Map.bounded c.args.map.now) in
     let small : c.args.d + 1 < 4294967295 = omega arith in
     let state : c.loop-s.s < size = omega arith in
     let room : size ≤ length c.loop-s.work = omega arith in

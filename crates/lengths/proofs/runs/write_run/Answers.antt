@@ -17,13 +17,13 @@ unwrap-at-requires g c =
     let i = c.loop-i.i in
     let e : get_or c.args.work.now c.loop-i.at 0 ≡ n - i - 1 + 1 = omega (arith, c.loop-i.invariant.here) in
     let x = c.requires.falls c.loop-i.at (n - i - 1) c.loop-i.invariant.state (omega arith) e in
-    some_since _ _ _ c.step-to.ensures (λ off. off x.0 x.1 x.2)
+    some_since _ _ _ c.step_to.ensures (λ off. off x.0 x.1 x.2)
 
 pub loop-i-preserved : goal.loop-i-preserved
 loop-i-preserved g c =
     let l : c.loop-i.i + 1 < length (set c.args.run.now 0 c.args.s) = simp length-set (omega arith) in
-    let step = value_of c.step-to.result _ _ c.unwrap-at.result c.unwrap-at.ensures c.step-to.ensures in
-    drawing_more (well_formed g.L.Look.sign _ (g.M.Map.bounded c.args.map.now)) c.loop-i.invariant l step.0 (omega (arith, step.1, c.loop-i.invariant.here))
+    let step = value_of c.step_to.result _ _ c.unwrap-at.result c.unwrap-at.ensures c.step_to.ensures in
+    drawing_more (well_formed g.M.L.Look.sign _ (g.M.Map.bounded c.args.map.now)) c.loop-i.invariant l step.0 (omega (arith, step.1, c.loop-i.invariant.here))
 
 pub returns : goal.returns
 returns g c = drawing_all c.loop-i.invariant (omega arith)
