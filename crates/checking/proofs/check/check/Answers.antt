@@ -9,8 +9,8 @@ use Rattle.checking.proofs.Fronts.{front_within}
 use Rattle.checking.proofs.Maps.{map_at_fault, checked}
 use Rattle.checking.proofs.check.check.Goals as goal
 
-pub check-tables-requires : goal.check-tables-requires
-check-tables-requires c =
+pub check_tables-requires : goal.check_tables-requires
+check_tables-requires c =
     let n = c.in-Ok.size in
     let read = c.in-Ok.ensures in
     record {
@@ -21,19 +21,19 @@ check-tables-requires c =
 
 pub returns-in-Err : goal.returns-in-Err
 returns-in-Err c =
-    let front = c.write-text-fault.ensures in
+    let front = c.write_text_fault.ensures in
     record {
-      checks = map_at_fault c.args.map.now c.args.rules.now c.args.out.now c.write-text-fault.new.out c.write-text-fault.result c.in-Err.fault (omega arith) c.in-Err.ensures.answer front;
-      within = front_within (fault_text 77 c.in-Err.fault) c.args.out.now c.write-text-fault.new.out c.write-text-fault.result front (omega arith);
+      checks = map_at_fault c.args.map.now c.args.rules.now c.args.out.now c.write_text_fault.new.out c.write_text_fault.result c.in-Err.fault (omega arith) c.in-Err.ensures.answer front;
+      within = front_within (fault_text 77 c.in-Err.fault) c.args.out.now c.write_text_fault.new.out c.write_text_fault.result front (omega arith);
     }
 
 pub returns-in-Ok : goal.returns-in-Ok
 returns-in-Ok c =
-    let last = c.read-map.new in
+    let last = c.read_map.new in
     let t = tables last.looks last.starts last.firsts last.targets in
-    let wrote = c.check-tables.ensures in
+    let wrote = c.check_tables.ensures in
     record {
-      checks = checked c.args.map.now c.args.rules.now c.args.out.now c.check-tables.new.out c.check-tables.result c.in-Ok.size t
+      checks = checked c.args.map.now c.args.rules.now c.args.out.now c.check_tables.new.out c.check_tables.result c.in-Ok.size t
           (omega arith) c.in-Ok.ensures.answer c.in-Ok.ensures.held wrote;
-      within = front_within wrote.bytes c.args.out.now c.check-tables.new.out c.check-tables.result wrote.front (omega arith);
+      within = front_within wrote.bytes c.args.out.now c.check_tables.new.out c.check_tables.result wrote.front (omega arith);
     }

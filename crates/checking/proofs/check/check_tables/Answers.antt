@@ -7,8 +7,8 @@ use Rattle.checking.specs.Outputs.{OfMap, Wrote}
 use Rattle.checking.proofs.Tables.{read_as, few_states}
 use Rattle.checking.proofs.check.check_tables.Goals as goal
 
-pub check-map-requires : goal.check-map-requires
-check-map-requires c =
+pub check_map-requires : goal.check_map-requires
+check_map-requires c =
     let t = tables c.args.looks.now c.args.starts.now c.args.firsts.now c.args.targets.now in
     let r = c.map.result in
     let e = c.map.ensures in
@@ -23,6 +23,6 @@ returns c =
     let t = tables c.args.looks.now c.args.starts.now c.args.firsts.now c.args.targets.now in
     let r = c.map.result in
     let e = c.map.ensures in
-    subst (λ (m : Meaning SwitchLook). Wrote (OfMap (structure (λ look k. switch_sign look.marks k) m) c.args.rules.now) c.args.out.now c.check-map.new.out c.check-map.result)
+    subst (λ (m : Meaning SwitchLook). Wrote (OfMap (structure (λ look k. switch_sign look.marks k) m) c.args.rules.now) c.args.out.now c.check_map.new.out c.check_map.result)
     (read_as c.args.size t r.fault r.looks.now r.starts.now r.firsts.now r.targets.now (e.fault ∙ c.requires.made) e.looks e.starts e.firsts e.targets)
-    c.check-map.ensures
+    c.check_map.ensures

@@ -8,6 +8,6 @@ returns-in-Some c = fronted _ _ _ _ c.in-Some.ensures
 
 pub returns-in-None : goal.returns-in-None
 returns-in-None c =
-    not_out (fault_line c.args.text c.args.number c.args.line c.args.field) c.args.out.now c.put-fault.new.out
+    not_out (fault_line c.args.text c.args.number c.args.line c.args.field) c.args.out.now c.put_fault.new.out
     (omega (arith, fault_short c.args.text c.args.number c.args.line c.args.field (omega arith) (omega arith) (omega arith)))
     c.in-None.ensures

@@ -11,11 +11,11 @@ loop-i-init g c = told_none
 
 pub loop-i-preserved : goal.loop-i-preserved
 loop-i-preserved g c =
-    let kept = c.perform-both.auto in
-    let gives = c.perform-both.ensures in
+    let kept = c.perform_both.auto in
+    let gives = c.perform_both.ensures in
     told_more (Add True) c.loop-i.invariant c.loop-i-test.true (room_for c.loop-i-test.true c.requires c.loop-i.auto.answers)
     gives.full (same_lent _ _ _ _ _ _ kept.sheet kept.work kept.run)
-    gives.folded (same_lent _ _ _ _ _ _ kept.folded-sheet kept.folded-work kept.folded-run)
+    gives.folded (same_lent _ _ _ _ _ _ kept.folded_sheet kept.folded_work kept.folded_run)
 
 pub returns : goal.returns
 returns g c = told_all c.loop-i.auto.i-end c.loop-i-test.false c.loop-i.invariant

@@ -5,4 +5,4 @@ use Rattle.stl.specs.Structures.{Move}
 use Rattle.foldcheck.proofs.questions.moves_forth.Given as goal
 
 abbrev pub invariant-loop-k : goal.invariant-loop-k
-invariant-loop-k g l = (i : ℕ) → i < l.k → Move (structure g.L.Look.sign (g.G.Map.meaning l.folded)) (class_of l.classes l.s) (class_of l.classes (get_or ((g.F.Map.meaning l.full).list l.s) i 0))
+invariant-loop-k g l = (i : ℕ) → i < l.k → Move (structure g.F.L.Look.sign (g.G.Map.meaning l.folded)) (class_of l.classes l.s) (class_of l.classes (get_or ((g.F.Map.meaning l.full).list l.s) i 0))

@@ -5,10 +5,10 @@ use Rattle.listed.specs.Tables.{right_first}
 use Rattle.listed.proofs.judge.table_fault.Goals as goal
 
 -- the last first is right, so there are few enough targets
-pub wrong-target-requires : goal.wrong-target-requires
-wrong-target-requires g c =
+pub wrong_target-requires : goal.wrong_target-requires
+wrong_target-requires g c =
     let firsts = c.args.firsts.now in
     let count = length c.args.targets.now in
     let last = length c.args.looks.now in
     let long : length firsts ≡ last + 1 = c.if-firsts-size.false in
-    (right_parts firsts count last (all_yes (right_first firsts count) (length firsts) (sym c.wrong-first.ensures ∙ c.in-default.is) last (omega arith))).few (omega arith)
+    (right_parts firsts count last (all_yes (right_first firsts count) (length firsts) (sym c.wrong_first.ensures ∙ c.in_default.is) last (omega arith))).few (omega arith)

@@ -7,4 +7,4 @@ pub returns-in-Until : goal.returns-in-Until
 returns-in-Until g c =
     let m = g.M.Map.meaning c.args.map.now in
     let fits = g.M.Map.bounded c.args.map.now in
-    timed_row (structure g.L.Look.sign m) c.args.sheet.now c.args.work.now (well_formed g.L.Look.sign m fits) fits.size_fits c.args.row c.in-Until.field-0 c.in-Until.field-1 c.in-Until.is c.args.s c.requires.state c.requires.timed
+    timed_row (structure g.M.L.Look.sign m) c.args.sheet.now c.args.work.now (well_formed g.M.L.Look.sign m fits) fits.size_fits c.args.row c.in-Until.field-0 c.in-Until.field-1 c.in-Until.is c.args.s c.requires.state c.requires.timed

@@ -3,7 +3,7 @@ use Rattle.std.proofs.lemmas.Bool.{both_ways, false≢true}
 use Rattle.map.proofs.Moves.{entry_is, entry_there}
 use Rattle.lengths.specs.Sheets.{by_sheet, label_of}
 use Rattle.marking.proofs.rows.some_move.Goals as goal
-use Rattle.marking.proofs.rows.some_move.Goals.{in-Some+else-labelled, in-default}
+use Rattle.marking.proofs.rows.some_move.Goals.{in-Some+else-labelled, in_default}
 
 pub labelled-requires : goal.labelled-requires
 labelled-requires g c =
@@ -25,9 +25,9 @@ loop-k-preserved g c =
     let h : c.loop-k.k < length xs = search rules in
     elim c.match-entry.branch [
       | in-Some+else-labelled w ↦ below_more _ _ c.loop-k.invariant (λ e. both_ways _ (sym w.labelled.ensures ∙ w.if-labelled.false) (ap (label_of c.args.sheet.now c.args.a) (entry_is xs c.loop-k.k w.in-Some.t c.entry.result h c.entry.ensures w.in-Some.is) ∙ e))
-      | in-default w ↦ absurd (entry_there xs c.loop-k.k c.entry.result h c.entry.ensures w.in-default.is)
+      | in_default w ↦ absurd (entry_there xs c.loop-k.k c.entry.result h c.entry.ensures w.in_default.is)
     ]
 
 pub returns : goal.returns
 returns g c =
-    ((λ e. absurd (false≢true e)), (λ x. absurd (c.loop-k.invariant x.1.0 (omega (arith, x.1.1, c.list-len-k-end.ensures)) (subst (by_sheet c.args.sheet.now c.args.a) (sym x.1.2) x.2))))
+    ((λ e. absurd (false≢true e)), (λ x. absurd (c.loop-k.invariant x.1.0 (omega (arith, x.1.1, c.list_len-k-end.ensures)) (subst (by_sheet c.args.sheet.now c.args.a) (sym x.1.2) x.2))))

@@ -6,7 +6,7 @@ use Rattle.marking.proofs.rows.write_row.Goals as goal
 
 pub satisfied-b-requires : goal.satisfied-b-requires
 satisfied-b-requires g c =
-    let k = structure g.L.Look.sign (g.M.Map.meaning c.args.map.now) in
+    let k = structure g.M.L.Look.sign (g.M.Map.meaning c.args.map.now) in
     record {
       state = omega arith;
       words = omega arith;
@@ -18,4 +18,4 @@ satisfied-b-requires g c =
 pub loop-s-preserved : goal.loop-s-preserved
 loop-s-preserved g c =
     let l : c.loop-s.s < length c.loop-s.sheet = omega arith in
-    labelled_more c.with-bit.result c.loop-s.invariant l c.requires.earlier c.satisfied-b.ensures c.with-bit.ensures
+    labelled_more c.with_bit.result c.loop-s.invariant l c.requires.earlier c.satisfied-b.ensures c.with_bit.ensures

@@ -7,12 +7,12 @@ use Rattle.reader.proofs.next.take_line.Goals as goal
 pub returns-in-Some : goal.returns-in-Some
 returns-in-Some c =
     let p = split_off c.args.text.now c.in-Some.line.now c.in-Some.rest.now c.in-Some.ensures in
-    (p.0 ∙ ap (λ l. l ∷ text_lines c.in-Some.rest.now) (sym c.read-line.ensures), p.1)
+    (p.0 ∙ ap (λ l. l ∷ text_lines c.in-Some.rest.now) (sym c.read_line.ensures), p.1)
 
-pub returns-then-is-empty : goal.returns-then-is-empty
-returns-then-is-empty c = ended_none c.args.text.now (eqb-true _ _ (sym c.if-is-empty.ensures))
+pub returns-then-is_empty : goal.returns-then-is_empty
+returns-then-is_empty c = ended_none c.args.text.now (eqb-true _ _ (sym c.if-is_empty.ensures))
 
-pub returns-else-is-empty : goal.returns-else-is-empty
-returns-else-is-empty c =
-    let ne = eqb-false (length c.args.text.now) 0 (sym c.if-is-empty.ensures) in
+pub returns-else-is_empty : goal.returns-else-is_empty
+returns-else-is_empty c =
+    let ne = eqb-false (length c.args.text.now) 0 (sym c.if-is_empty.ensures) in
     (none_ended c.args.text.now c.in-None.ensures ∙ ended_some c.args.text.now ne, omega arith)

@@ -5,4 +5,4 @@ pub loop-r-preserved : goal.loop-r-preserved
 loop-r-preserved g c =
     below_more _ _
     (λ q h. let ne : q ≢ c.loop-r.r = omega arith in rw get_or-set_other (c.loop-r.invariant q h))
-    (let lt : c.loop-r.r < length c.loop-r.finds = omega arith in rw get_or-set_same c.found-of.ensures)
+    (let lt : c.loop-r.r < length c.loop-r.finds = omega arith in rw get_or-set_same c.found_of.ensures)

@@ -13,15 +13,15 @@ pub loop-r-preserved : goal.loop-r-preserved
 loop-r-preserved c =
     let finds = c.args.finds.now in
     let r = c.loop-r.r in
-    subst (λ t. Put c.args.pen c.args.out.now 0 t c.put-found.new.out (Some c.in-ok-at.at)) (text_more finds r (omega arith))
-    (put_then c.loop-r.invariant c.in-ok-at.ensures)
+    subst (λ t. Put c.args.pen c.args.out.now 0 t c.put_found.new.out (Some c.in_ok-at.at)) (text_more finds r (omega arith))
+    (put_then c.loop-r.invariant c.in_ok-at.ensures)
 
-pub returns-in-err-at : goal.returns-in-err-at
-returns-in-err-at c =
+pub returns-in_err-at : goal.returns-in_err-at
+returns-in_err-at c =
     let finds = c.args.finds.now in
     let r = c.loop-r.r in
-    subst (λ t. Put c.args.pen c.args.out.now 0 t c.put-found.new.out c.from-residual.result) (text_rest finds r (omega arith))
-    (put_then c.loop-r.invariant (put_none (report_from (r + 1) (drop (r + 1) finds)) c.in-err-at.ensures c.from-residual.ensures))
+    subst (λ t. Put c.args.pen c.args.out.now 0 t c.put_found.new.out c.from_residual.result) (text_rest finds r (omega arith))
+    (put_then c.loop-r.invariant (put_none (report_from (r + 1) (drop (r + 1) finds)) c.in_err-at.ensures c.from_residual.ensures))
 
 pub returns : goal.returns
 returns c =

@@ -6,7 +6,7 @@ use Rattle.report.proofs.write.report.Goals as goal
 
 pub returns : goal.returns
 returns g c =
-    let k = structure g.L.Look.sign (g.M.Map.meaning c.args.map.now) in
+    let k = structure g.M.L.Look.sign (g.M.Map.meaning c.args.map.now) in
     let x = c.args.session.now in
     let p = collected k (state x) c.args.sheet.now c.args.out.now c.save.new.out c.save.result c.marked-n.result c.collect.new.finds c.marked-n.ensures (omega arith) c.collect.ensures c.save.ensures in
     record {

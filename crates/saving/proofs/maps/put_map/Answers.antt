@@ -7,22 +7,22 @@ use Rattle.saving.specs.Texts.{ended, first_states}
 use Rattle.saving.proofs.Lines.{text_more, none_answered}
 use Rattle.saving.proofs.maps.put_map.Goals as goal
 
-pub returns-in-err-next : goal.returns-in-err-next
-returns-in-err-next g c =
+pub returns-in_err-next : goal.returns-in_err-next
+returns-in_err-next g c =
     let m = g.M.Map.meaning c.args.map.now in
     record {
-      fit = none_answered (LooksFit m) c.from-residual.ensures;
+      fit = none_answered (LooksFit m) c.from_residual.ensures;
       put =
           put_same (text_more (Map m.size) (first_states m m.size))
-          (put_none (written_text (first_states m m.size)) (put_same (ap (λ n. ended (Map n)) c.size.ensures) c.in-err-next.ensures) c.from-residual.ensures);
+          (put_none (written_text (first_states m m.size)) (put_same (ap (λ n. ended (Map n)) c.size.ensures) c.in_err-next.ensures) c.from_residual.ensures);
     }
 
 pub returns : goal.returns
 returns g c =
     let m = g.M.Map.meaning c.args.map.now in
     record {
-      fit = c.put-states.ensures.fit;
+      fit = c.put_states.ensures.fit;
       put =
           put_same (text_more (Map m.size) (first_states m m.size))
-          (put_then (put_same (ap (λ n. ended (Map n)) c.size.ensures) c.in-ok-next.ensures) c.put-states.ensures.put);
+          (put_then (put_same (ap (λ n. ended (Map n)) c.size.ensures) c.in_ok-next.ensures) c.put_states.ensures.put);
     }

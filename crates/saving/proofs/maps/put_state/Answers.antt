@@ -6,14 +6,14 @@ use Rattle.saving.specs.Texts.{ended, marks_of, start_of}
 use Rattle.saving.proofs.Lines.{text_more}
 use Rattle.saving.proofs.maps.put_state.Goals as goal
 
-pub returns-in-err-next : goal.returns-in-err-next
-returns-in-err-next g c =
+pub returns-in_err-next : goal.returns-in_err-next
+returns-in_err-next g c =
     let m = g.M.Map.meaning c.args.map.now in
     let targets = map Target (m.list c.args.s) in
     record {
       put =
           put_same (text_more (State (marks_of (m.look c.args.s)) (start_of (m.start c.args.s))) targets)
-          (put_none (written_text targets) (put_same (ap ended c.state_line.ensures.is) c.in-err-next.ensures) c.from-residual.ensures);
+          (put_none (written_text targets) (put_same (ap ended c.state_line.ensures.is) c.in_err-next.ensures) c.from_residual.ensures);
       fits = c.state_line.ensures.fits;
     }
 
@@ -23,6 +23,6 @@ returns g c =
     record {
       put =
           put_same (text_more (State (marks_of (m.look c.args.s)) (start_of (m.start c.args.s))) (map Target (m.list c.args.s)))
-          (put_then (put_same (ap ended c.state_line.ensures.is) c.in-ok-next.ensures) c.put-targets.ensures);
+          (put_then (put_same (ap ended c.state_line.ensures.is) c.in_ok-next.ensures) c.put_targets.ensures);
       fits = c.state_line.ensures.fits;
     }

@@ -9,19 +9,19 @@ use Rattle.saving.proofs.maps.put_states.Goals as goal
 pub loop-s-init : goal.loop-s-init
 loop-s-init g c = (λ s h. absurd (omega arith), put_nothing _ _ _ c.requires)
 
-pub returns-in-err-at : goal.returns-in-err-at
-returns-in-err-at g c =
+pub returns-in_err-at : goal.returns-in_err-at
+returns-in_err-at g c =
     let m = g.M.Map.meaning c.args.map.now in
     record {
-      fit = none_answered (LooksFit m) c.from-residual.ensures;
-      put = put_same (all_states m m.size) (put_stop (state_at m) c.loop-s.s m.size (omega arith) c.loop-s.invariant.1 c.in-err-at.ensures.put c.from-residual.ensures);
+      fit = none_answered (LooksFit m) c.from_residual.ensures;
+      put = put_same (all_states m m.size) (put_stop (state_at m) c.loop-s.s m.size (omega arith) c.loop-s.invariant.1 c.in_err-at.ensures.put c.from_residual.ensures);
     }
 
 pub loop-s-preserved : goal.loop-s-preserved
 loop-s-preserved g c =
     let m = g.M.Map.meaning c.args.map.now in (
-      below_more (λ s. marks_of (m.look s) < 2 ^ 32) c.loop-s.s c.loop-s.invariant.0 c.in-ok-at.ensures.fits,
-      put_more (state_at m) c.loop-s.s c.loop-s.invariant.1 c.in-ok-at.ensures.put,
+      below_more (λ s. marks_of (m.look s) < 2 ^ 32) c.loop-s.s c.loop-s.invariant.0 c.in_ok-at.ensures.fits,
+      put_more (state_at m) c.loop-s.s c.loop-s.invariant.1 c.in_ok-at.ensures.put,
     )
 
 pub returns : goal.returns

@@ -8,13 +8,13 @@ use Rattle.saving.proofs.maps.put_targets.Goals as goal
 pub loop-k-init : goal.loop-k-init
 loop-k-init g c = put_nothing _ _ _ c.requires
 
-pub returns-in-err-at : goal.returns-in-err-at
-returns-in-err-at g c =
+pub returns-in_err-at : goal.returns-in_err-at
+returns-in_err-at g c =
     let list = (g.M.Map.meaning c.args.map.now).list c.args.s in
-    put_same (all_lines Target 0 list) (put_stop (line_at Target 0 list) c.loop-k.k (length list) (omega arith) c.loop-k.invariant c.in-err-at.ensures c.from-residual.ensures)
+    put_same (all_lines Target 0 list) (put_stop (line_at Target 0 list) c.loop-k.k (length list) (omega arith) c.loop-k.invariant c.in_err-at.ensures c.from_residual.ensures)
 
 pub loop-k-preserved : goal.loop-k-preserved
-loop-k-preserved g c = put_more (line_at Target 0 ((g.M.Map.meaning c.args.map.now).list c.args.s)) c.loop-k.k c.loop-k.invariant c.in-ok-at.ensures
+loop-k-preserved g c = put_more (line_at Target 0 ((g.M.Map.meaning c.args.map.now).list c.args.s)) c.loop-k.k c.loop-k.invariant c.in_ok-at.ensures
 
 pub returns : goal.returns
 returns g c =

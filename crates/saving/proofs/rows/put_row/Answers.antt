@@ -6,8 +6,8 @@ use Rattle.saving.specs.Texts.{ended}
 use Rattle.saving.proofs.Lines.{there, not_missing}
 use Rattle.saving.proofs.rows.put_row.Goals as goal
 
-pub returns-in-err-row : goal.returns-in-err-row
-returns-in-err-row c = absurd (not_missing _ c.args.r True _ c.requires c.row.ensures c.in-err-row.was)
+pub returns-in_err-row : goal.returns-in_err-row
+returns-in_err-row c = absurd (not_missing _ c.args.r True _ c.requires c.row.ensures c.in_err-row.was)
 
 pub returns : goal.returns
-returns c = put_same (ap (λ x. ended (Rule x)) (there _ c.args.r True _ _ c.requires c.row.ensures c.in-ok-row.was)) c.put-line.ensures
+returns c = put_same (ap (λ x. ended (Rule x)) (there _ c.args.r True _ _ c.requires c.row.ensures c.in_ok-row.was)) c.put_line.ensures

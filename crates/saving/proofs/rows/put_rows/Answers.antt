@@ -6,13 +6,13 @@ use Rattle.saving.proofs.Lines.{line_at, all_lines}
 use Rattle.saving.proofs.Pieces.{pieces, put_more, put_stop}
 use Rattle.saving.proofs.rows.put_rows.Goals as goal
 
-pub returns-in-err-at : goal.returns-in-err-at
-returns-in-err-at c =
+pub returns-in_err-at : goal.returns-in_err-at
+returns-in_err-at c =
     let rows = take c.args.rules.now.len c.args.rules.now.rows in
-    put_same (all_lines Rule True rows) (put_stop (line_at Rule True rows) c.loop-r.r (length rows) (omega arith) c.loop-r.invariant c.in-err-at.ensures c.from-residual.ensures)
+    put_same (all_lines Rule True rows) (put_stop (line_at Rule True rows) c.loop-r.r (length rows) (omega arith) c.loop-r.invariant c.in_err-at.ensures c.from_residual.ensures)
 
 pub loop-r-preserved : goal.loop-r-preserved
-loop-r-preserved c = put_more (line_at Rule True (take c.args.rules.now.len c.args.rules.now.rows)) c.loop-r.r c.loop-r.invariant c.in-ok-at.ensures
+loop-r-preserved c = put_more (line_at Rule True (take c.args.rules.now.len c.args.rules.now.rows)) c.loop-r.r c.loop-r.invariant c.in_ok-at.ensures
 
 pub returns : goal.returns
 returns c =

@@ -10,7 +10,7 @@ returns-then-length g c =
     let fits = g.M.Map.bounded c.args.map.now in
     let filled = c.lengths-length.ensures.filled in
     record {
-      found = none (entry_none (well_formed g.L.Look.sign _ fits) fits.size_fits c.requires.state (filled.here c.args.s c.requires.state) c.if-length.true);
+      found = none (entry_none (well_formed g.M.L.Look.sign _ fits) fits.size_fits c.requires.state (filled.here c.args.s c.requires.state) c.if-length.true);
       sought = record { sheet = refl; work = filled; run = refl };
     }
 
@@ -22,10 +22,10 @@ returns-then-run-length g c =
       sought = record { sheet = refl; work = filled; run = refl };
     }
 
-pub write-run-requires : goal.write-run-requires
-write-run-requires g c =
+pub write_run-requires : goal.write_run-requires
+write_run-requires g c =
     let fits = g.M.Map.bounded c.args.map.now in
-    let formed = well_formed g.L.Look.sign _ fits in
+    let formed = well_formed g.M.L.Look.sign _ fits in
     let filled = c.lengths-length.ensures.filled in
     record {
       state = c.requires.state;
@@ -38,10 +38,10 @@ write-run-requires g c =
 pub returns : goal.returns
 returns g c =
     let fits = g.M.Map.bounded c.args.map.now in
-    let formed = well_formed g.L.Look.sign _ fits in
+    let formed = well_formed g.M.L.Look.sign _ fits in
     let filled = c.lengths-length.ensures.filled in
     let l = entry_length (filled.here c.args.s c.requires.state) c.if-length.false in
     record {
       found = shown _ l c.if-run-length.false;
-      sought = record { sheet = refl; work = filled; run = drawn_written formed c.lengths-length.new.work filled.here c.requires.state (length_small formed fits.size_fits c.requires.state l) c.write-run.ensures };
+      sought = record { sheet = refl; work = filled; run = drawn_written formed c.lengths-length.new.work filled.here c.requires.state (length_small formed fits.size_fits c.requires.state l) c.write_run.ensures };
     }

@@ -5,7 +5,7 @@ use Rattle.writing.proofs.number.put_number.Goals as goal
 
 pub returns : goal.returns
 returns c =
-    let ds = c.fill-digits-first.new.digits in
-    let i = c.fill-digits-first.result in
-    let e = take_all (10 - i) (drop i ds) (simp length-drop (omega arith)) ∙ c.fill-digits-first.ensures.filled in
-    record { put = put_same e c.put-bytes.ensures.put; refused = c.put-bytes.ensures.refused }
+    let ds = c.fill_digits-first.new.digits in
+    let i = c.fill_digits-first.result in
+    let e = take_all (10 - i) (drop i ds) (simp length-drop (omega arith)) ∙ c.fill_digits-first.ensures.filled in
+    record { put = put_same e c.put_bytes.ensures.put; refused = c.put_bytes.ensures.refused }

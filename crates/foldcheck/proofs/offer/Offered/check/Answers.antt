@@ -9,27 +9,27 @@ returns-then-entries-size g c = record { table = tt; verdict = wrong_length _ _ 
 pub returns-in-Some : goal.returns-in-Some
 returns-in-Some g c = record { table = tt; verdict = no_class _ _ _ _ _ (omega arith) _ c.in-Some.ensures; share = tt }
 
-pub returns-in-Some-lowest-no : goal.returns-in-Some-lowest-no
-returns-in-Some-lowest-no g c = record { table = tt; verdict = other_look _ _ _ _ _ (omega arith) c.in-default.ensures _ c.in-Some-lowest-no.ensures; share = tt }
+pub returns-in-Some-lowest_no : goal.returns-in-Some-lowest_no
+returns-in-Some-lowest_no g c = record { table = tt; verdict = other_look _ _ _ _ _ (omega arith) c.in_default.ensures _ c.in-Some-lowest_no.ensures; share = tt }
 
-pub returns-in-Some-lowest-no-2 : goal.returns-in-Some-lowest-no-2
-returns-in-Some-lowest-no-2 g c = record { table = tt; verdict = move_lost _ _ _ _ _ (omega arith) c.in-default.ensures c.in-default-lowest-no.ensures _ c.in-Some-lowest-no-2.ensures; share = tt }
+pub returns-in-Some-lowest_no-2 : goal.returns-in-Some-lowest_no-2
+returns-in-Some-lowest_no-2 g c = record { table = tt; verdict = move_lost _ _ _ _ _ (omega arith) c.in_default.ensures c.in_default-lowest_no.ensures _ c.in-Some-lowest_no-2.ensures; share = tt }
 
-pub returns-in-Some-lowest-no-3 : goal.returns-in-Some-lowest-no-3
-returns-in-Some-lowest-no-3 g c = record { table = tt; verdict = move_added _ _ _ _ _ (omega arith) c.in-default.ensures c.in-default-lowest-no.ensures c.in-default-lowest-no-2.ensures _ c.in-Some-lowest-no-3.ensures; share = tt }
+pub returns-in-Some-lowest_no-3 : goal.returns-in-Some-lowest_no-3
+returns-in-Some-lowest_no-3 g c = record { table = tt; verdict = move_added _ _ _ _ _ (omega arith) c.in_default.ensures c.in_default-lowest_no.ensures c.in_default-lowest_no-2.ensures _ c.in-Some-lowest_no-3.ensures; share = tt }
 
-pub returns-in-Some-lowest-no-4 : goal.returns-in-Some-lowest-no-4
-returns-in-Some-lowest-no-4 g c = record { table = tt; verdict = start_lost _ _ _ _ _ (omega arith) c.in-default.ensures c.in-default-lowest-no.ensures c.in-default-lowest-no-2.ensures c.in-default-lowest-no-3.ensures _ c.in-Some-lowest-no-4.ensures; share = tt }
+pub returns-in-Some-lowest_no-4 : goal.returns-in-Some-lowest_no-4
+returns-in-Some-lowest_no-4 g c = record { table = tt; verdict = start_lost _ _ _ _ _ (omega arith) c.in_default.ensures c.in_default-lowest_no.ensures c.in_default-lowest_no-2.ensures c.in_default-lowest_no-3.ensures _ c.in-Some-lowest_no-4.ensures; share = tt }
 
-pub returns-in-Some-lowest-no-5 : goal.returns-in-Some-lowest-no-5
-returns-in-Some-lowest-no-5 g c = record { table = tt; verdict = start_added _ _ _ _ _ (omega arith) c.in-default.ensures c.in-default-lowest-no.ensures c.in-default-lowest-no-2.ensures c.in-default-lowest-no-3.ensures c.in-default-lowest-no-4.ensures _ c.in-Some-lowest-no-5.ensures; share = tt }
+pub returns-in-Some-lowest_no-5 : goal.returns-in-Some-lowest_no-5
+returns-in-Some-lowest_no-5 g c = record { table = tt; verdict = start_added _ _ _ _ _ (omega arith) c.in_default.ensures c.in_default-lowest_no.ensures c.in_default-lowest_no-2.ensures c.in_default-lowest_no-3.ensures c.in_default-lowest_no-4.ensures _ c.in-Some-lowest_no-5.ensures; share = tt }
 
-pub returns-in-Some-lowest-no-6 : goal.returns-in-Some-lowest-no-6
-returns-in-Some-lowest-no-6 g c = record { table = tt; verdict = not_a_class _ _ _ _ _ (omega arith) c.in-default.ensures c.in-default-lowest-no.ensures c.in-default-lowest-no-2.ensures c.in-default-lowest-no-3.ensures c.in-default-lowest-no-4.ensures c.in-default-lowest-no-5.ensures _ c.in-Some-lowest-no-6.ensures; share = tt }
+pub returns-in-Some-lowest_no-6 : goal.returns-in-Some-lowest_no-6
+returns-in-Some-lowest_no-6 g c = record { table = tt; verdict = not_a_class _ _ _ _ _ (omega arith) c.in_default.ensures c.in_default-lowest_no.ensures c.in_default-lowest_no-2.ensures c.in_default-lowest_no-3.ensures c.in_default-lowest_no-4.ensures c.in_default-lowest_no-5.ensures _ c.in-Some-lowest_no-6.ensures; share = tt }
 
 pub returns : goal.returns
 returns g c = record {
   table = refl;
-  verdict = accepted _ _ _ _ _ (omega arith) c.in-default.ensures c.in-default-lowest-no.ensures c.in-default-lowest-no-2.ensures c.in-default-lowest-no-3.ensures c.in-default-lowest-no-4.ensures c.in-default-lowest-no-5.ensures c.in-default-lowest-no-6.ensures;
-  share = (folds_stand _ _ g.met.L.Look.agree _ _ _ (g.F.Map.bounded c.args.full.now) (g.G.Map.bounded c.args.folded.now) (accepts _ _ _ _ _ (omega arith) c.in-default.ensures c.in-default-lowest-no.ensures c.in-default-lowest-no-2.ensures c.in-default-lowest-no-3.ensures c.in-default-lowest-no-4.ensures c.in-default-lowest-no-5.ensures c.in-default-lowest-no-6.ensures)).1;
+  verdict = accepted _ _ _ _ _ (omega arith) c.in_default.ensures c.in_default-lowest_no.ensures c.in_default-lowest_no-2.ensures c.in_default-lowest_no-3.ensures c.in_default-lowest_no-4.ensures c.in_default-lowest_no-5.ensures c.in_default-lowest_no-6.ensures;
+  share = (folds_stand _ _ g.F.L.Look.agree _ _ _ (g.F.Map.bounded c.args.full.now) (g.G.Map.bounded c.args.folded.now) (accepts _ _ _ _ _ (omega arith) c.in_default.ensures c.in_default-lowest_no.ensures c.in_default-lowest_no-2.ensures c.in_default-lowest_no-3.ensures c.in_default-lowest_no-4.ensures c.in_default-lowest_no-5.ensures c.in_default-lowest_no-6.ensures)).1;
 }

@@ -10,6 +10,6 @@ returns g c =
     let b = g.B.Map.meaning m.right in
     let s = c.args.s in
     let l : s < joint_size m.fault a.size b.size = search rules in
-    let p : c.list-len.result * c.list-len-2.result ≡ length (a.list (s / b.size)) * length (b.list (s % b.size)) =
-    ap₂ (λ x y. x * y) (c.list-len.ensures ∙ ap (λ n. length (a.list (s / n))) c.size-n.ensures) (c.list-len-2.ensures ∙ ap (λ n. length (b.list (s % n))) c.size-n.ensures) in
+    let p : c.list_len.result * c.list_len-2.result ≡ length (a.list (s / b.size)) * length (b.list (s % b.size)) =
+    ap₂ (λ x y. x * y) (c.list_len.ensures ∙ ap (λ n. length (a.list (s / n))) c.size-n.ensures) (c.list_len-2.ensures ∙ ap (λ n. length (b.list (s % n))) c.size-n.ensures) in
     sym (list_long m.fault a b s l ∙ omega (arith, p, c.min.ensures))

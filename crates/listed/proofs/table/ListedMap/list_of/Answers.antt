@@ -3,20 +3,20 @@ use Rattle.listed.specs.Meant.{held}
 use Rattle.listed.proofs.States.{there}
 use Rattle.listed.proofs.table.ListedMap.list_of.Goals as goal
 
-pub slice-bounds-result-count-2 : goal.slice-bounds-result-count-2
-slice-bounds-result-count-2 g c =
+pub slice_bounds-result-count-2 : goal.slice_bounds-result-count-2
+slice_bounds-result-count-2 g c =
     let m = c.args.self.now in
     let h = there m.fault (held m) c.args.s m.judged (sym c.has.ensures ∙ c.if-not-has.false) in
     omega arith
 
-pub slice-bounds-result-start-2 : goal.slice-bounds-result-start-2
-slice-bounds-result-start-2 g c =
+pub slice_bounds-result-start-2 : goal.slice_bounds-result-start-2
+slice_bounds-result-start-2 g c =
     let m = c.args.self.now in
     let h = there m.fault (held m) c.args.s m.judged (sym c.has.ensures ∙ c.if-not-has.false) in
     omega arith
 
-pub slice-bounds-result-end-2 : goal.slice-bounds-result-end-2
-slice-bounds-result-end-2 g c =
+pub slice_bounds-result-end-2 : goal.slice_bounds-result-end-2
+slice_bounds-result-end-2 g c =
     let m = c.args.self.now in
     let h = there m.fault (held m) c.args.s m.judged (sym c.has.ensures ∙ c.if-not-has.false) in
     omega arith

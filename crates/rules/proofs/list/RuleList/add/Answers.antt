@@ -2,15 +2,15 @@ use Rattle.std.proofs.Common.{◌<◌, length, sym, arith, rules}
 use Rattle.rules.proofs.Order.{ordered_set, taken}
 use Rattle.rules.proofs.list.RuleList.add.Goals as goal
 
-pub invariant-of-self : goal.invariant-of-self
-invariant-of-self c =
+pub invariant_of-self : goal.invariant_of-self
+invariant_of-self c =
     let m = c.args.self.now in
     let l : m.len < length m.rows = omega (arith, m.long) in
-    (search rules, (search rules, (ordered_set m.rows m.len c.args.row l (sym c.if-not-names-below.ensures) m.earlier, tt)))
+    (search rules, (search rules, (ordered_set m.rows m.len c.args.row l (sym c.if-not-names_below.ensures) m.earlier, tt)))
 
 pub returns : goal.returns
 returns c =
     let m = c.args.self.now in
     let l : m.len < length m.rows = omega (arith, m.long) in
-    let t = taken m.rows m.len c.args.row l (sym c.if-not-names-below.ensures) c.if-n-ge64.false in
+    let t = taken m.rows m.len c.args.row l (sym c.if-not-names_below.ensures) c.if-n-ge64.false in
     record { answer = t.0; rows = t.1 }

@@ -3,8 +3,8 @@ use Rattle.calls.proofs.Given.{add_given}
 use Rattle.session.proofs.RowFacts.{row_added}
 use Rattle.session.proofs.held.Session.add.Goals as goal
 
-pub invariant-of-self : goal.invariant-of-self
-invariant-of-self g c =
+pub invariant_of-self : goal.invariant_of-self
+invariant_of-self g c =
     let x = c.args.self.now in
     let new = row_added x.rules c.add.new.self c.args.row c.in-Ok.r c.in-Ok.ensures.answer c.add.ensures.rows in
     (omega (arith, x.within, new.longer), tt)

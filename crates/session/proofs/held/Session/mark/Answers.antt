@@ -6,19 +6,19 @@ use Rattle.stl.proofs.Rows.{reach_below}
 use Rattle.session.proofs.RowFacts.{rows_long, row_there, row_missing}
 use Rattle.session.proofs.held.Session.mark.Goals as goal
 
-pub returns-in-default : goal.returns-in-default
-returns-in-default g c =
+pub returns-in_default : goal.returns-in_default
+returns-in_default g c =
     let x = c.args.self.now in
-    record { gives = mark_refused (omega arith) (row_missing x.rules x.marked c.in-default.ensures); below = tt }
+    record { gives = mark_refused (omega arith) (row_missing x.rules x.marked c.in_default.ensures); below = tt }
 
-pub mark-row-reach-requires : goal.mark-row-reach-requires
-mark-row-reach-requires g c =
+pub mark_row-reach-requires : goal.mark_row-reach-requires
+mark_row-reach-requires g c =
     let x = c.args.self.now in
     let t = row_there x.rules x.marked c.in-Some.row c.in-Some.ensures in
     record { bit = omega (arith, t.below, t.few); words = omega (arith, (g.M.Map.bounded c.args.map.now).size_fits); earlier = t.names }
 
-pub invariant-of-self : goal.invariant-of-self
-invariant-of-self g c =
+pub invariant_of-self : goal.invariant_of-self
+invariant_of-self g c =
     let x = c.args.self.now in
     let t = row_there x.rules x.marked c.in-Some.row c.in-Some.ensures in
     (omega (arith, t.below, rows_long x.rules), tt)
@@ -27,8 +27,8 @@ pub returns : goal.returns
 returns g c =
     let x = c.args.self.now in
     let t = row_there x.rules x.marked c.in-Some.row c.in-Some.ensures in
-    let marked = c.mark-row-reach.ensures in
+    let marked = c.mark_row-reach.ensures in
     record {
       gives = mark_given (omega arith) t.below t.is marked.labels marked.reach;
-      below = reach_below _ (by_sheet c.args.sheet.now) (well_formed g.L.Look.sign _ (g.M.Map.bounded c.args.map.now)) _ _ marked.reach;
+      below = reach_below _ (by_sheet c.args.sheet.now) (well_formed g.M.L.Look.sign _ (g.M.Map.bounded c.args.map.now)) _ _ marked.reach;
     }

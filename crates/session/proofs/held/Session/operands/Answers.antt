@@ -10,11 +10,11 @@ returns-in-Until c =
     let b = until_below c.in-Until.is t.names in
     record { is = t.is ∙ c.in-Until.is; left = omega (arith, b.0, t.below, t.few); right = omega (arith, b.1, t.below, t.few) }
 
-pub returns-in-default : goal.returns-in-default
-returns-in-default c =
+pub returns-in_default : goal.returns-in_default
+returns-in_default c =
     let x = c.args.self.now in
     let t = row_there x.rules c.args.r c.in-Some.row c.in-Some.ensures in
-    not_until _ (λ a b e. c.in-default.not-Until a b (sym t.is ∙ e))
+    not_until _ (λ a b e. c.in_default.not-Until a b (sym t.is ∙ e))
 
 pub returns-in-None : goal.returns-in-None
 returns-in-None c =

@@ -7,14 +7,14 @@ use Rattle.session.proofs.Reaching.{no_reach, reach_given}
 use Rattle.session.specs.Sessions.{state}
 use Rattle.session.proofs.held.Session.reach.Goals as goal
 
-pub returns-in-default : goal.returns-in-default
-returns-in-default g c =
-    let formed = well_formed g.L.Look.sign _ (g.M.Map.bounded c.args.map.now) in
-    reach_given (state c.args.self.now) c.args.sheet.now c.args.r 0 formed (omega arith) (omega arith) (no_reach _ _ _ c.in-default.ensures)
+pub returns-in_default : goal.returns-in_default
+returns-in_default g c =
+    let formed = well_formed g.M.L.Look.sign _ (g.M.Map.bounded c.args.map.now) in
+    reach_given (state c.args.self.now) c.args.sheet.now c.args.r 0 formed (omega arith) (omega arith) (no_reach _ _ _ c.in_default.ensures)
 
 pub returns : goal.returns
 returns g c =
     let m = g.M.Map.meaning c.args.map.now in
-    let formed = well_formed g.L.Look.sign m (g.M.Map.bounded c.args.map.now) in
+    let formed = well_formed g.M.L.Look.sign m (g.M.Map.bounded c.args.map.now) in
     reach_given (state c.args.self.now) c.args.sheet.now c.args.r c.lengths.result formed (omega arith) (omega arith)
-    (subst (λ row. Reach (structure g.L.Look.sign m) (by_sheet c.args.sheet.now) row c.lengths.result) (sym c.in-Some.ensures.is) c.lengths.ensures.greatest)
+    (subst (λ row. Reach (structure g.M.L.Look.sign m) (by_sheet c.args.sheet.now) row c.lengths.result) (sym c.in-Some.ensures.is) c.lengths.ensures.greatest)
