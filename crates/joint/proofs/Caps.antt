@@ -9,7 +9,7 @@ use Rattle.map.specs.Counts.{longest}
 use Rattle.map.specs.Meaning.{Meaning, Bounded}
 use Rattle.map.specs.Questions.{first_no}
 use Rattle.joint.specs.Bounds.{parts}
-use Rattle.joint.specs.Pairs.{paired_start, paired_look, paired_list, joint_size, joint, questions, Uncapped}
+use Rattle.joint.specs.Pairs.{paired_start, paired_look, paired_list, joint_size, questions, Uncapped}
 use Rattle.joint.proofs.Lists.{length_pairs}
 
 -- no list is longer than a map may have

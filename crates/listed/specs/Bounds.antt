@@ -1,14 +1,14 @@
 -- The map that tables make keeps to the bounds of all maps. This stands beside the definitions since each listed map
 -- carries it. Assumes nothing.
-use Rattle.std.specs.Prelude.{◌≡◌, ℕ, ◌+◌, ◌-◌, ◌<◌, ◌≤◌, Bool, true, false, cond, List, [], ◌∷◌, length, drop, is_some, Some, None, Option, nat_lt, slice_index, slice_index_or, refl}
+use Rattle.std.specs.Prelude.{◌≡◌, ℕ, ◌+◌, ◌-◌, ◌<◌, ◌≤◌, cond, List, [], ◌∷◌, length, drop, is_some, Some, None, Option, nat_lt, slice_index, slice_index_or, refl}
 use Rattle.std.proofs.Common.{⊎_elim, sym, ap, subst, ◌∙◌, arith}
 use Rattle.std.proofs.lemmas.List.{length-take, length-drop, get_or-take, get_or-drop}
 use Rattle.std.proofs.lemmas.Option.{slice_get-get_or, slice_get_past}
 use Rattle.std.proofs.lemmas.Bool.{and_parts, cond-true, cond-false, lt-ltb, le-ltb, ltb-true, cases_lt}
 use Rattle.std.specs.List.{slice_get}
-use Rattle.map.specs.Meaning.{Meaning, Bounded}
+use Rattle.map.specs.Meaning.{Bounded}
 use Rattle.map.specs.Questions.{first_no}
-use Rattle.listed.specs.Sound.{Sound, sound, few, climb, within}
+use Rattle.listed.specs.Sound.{Sound, sound, few, within}
 use Rattle.listed.specs.Tables.{Tables, questions, list_of, listed}
 use Rattle.listed.specs.declared.fault.ListedFault.{ListedFault}
 

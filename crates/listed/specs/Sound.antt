@@ -1,11 +1,11 @@
 -- What tables have that are not refused. These facts stand beside the definitions since each listed map carries them.
 -- Assumes nothing.
-use Rattle.std.specs.Prelude.{◌≡◌, ℕ, zero, suc, ◌+◌, ◌-◌, ◌<◌, ◌≤◌, Bool, true, false, not, ◌&&◌, ◌||◌, List, [], ◌∷◌, length, None, ◌==◌, nat_le, nat_lt, slice_index}
-use Rattle.std.proofs.Common.{⊎_elim, sym, subst, arith}
+use Rattle.std.specs.Prelude.{◌≡◌, ℕ, zero, suc, ◌+◌, ◌-◌, ◌<◌, ◌≤◌, true, not, ◌&&◌, ◌||◌, List, length, None, ◌==◌, nat_le, nat_lt, slice_index}
+use Rattle.std.proofs.Common.{⊎_elim, subst, arith}
 use Rattle.std.proofs.lemmas.Bool.{and_parts, or_cases, not-true, ltb-true, leb-true, eqb-true, eqb-false}
 use Rattle.map.specs.Questions.{first_no}
 use Rattle.map.proofs.Asked.{answered}
-use Rattle.listed.specs.Tables.{Tables, right_first, right_target, questions}
+use Rattle.listed.specs.Tables.{Tables, right_first, questions}
 
 -- what each entry of right firsts has
 pub record RightFirst (firsts : List ℕ) (count i : ℕ) : Type 0 where

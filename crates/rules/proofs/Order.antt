@@ -1,9 +1,8 @@
 -- Rows in order: each row of a rule list names earlier ones, and one row more keeps it so. Assumes nothing.
-use Rattle.std.proofs.Common.{◌≡◌, ℕ, zero, suc, ◌+◌, ◌<◌, Bool, true, ◌&&◌, List, [], ◌∷◌, ◌++◌, length, get_or, take, set, Some, None, Ok, sym, refl, ap, ◌∙◌, subst, arith}
+use Rattle.std.proofs.Common.{◌≡◌, ℕ, zero, suc, ◌+◌, ◌<◌, true, List, [], ◌∷◌, ◌++◌, length, take, set, None, Ok, sym, refl, ap, ◌∙◌, subst, arith}
 use Rattle.std.proofs.lemmas.List.{take_more_set, length-take-le}
-use Rattle.std.proofs.lemmas.Bool.{and_parts, and_from, cond-true, lt-ltb}
-use Rattle.map.specs.Counts.{or_else}
-use Rattle.map.specs.Questions.{ask, refused_by, first_no}
+use Rattle.std.proofs.lemmas.Bool.{and_parts, and_from, lt-ltb}
+use Rattle.map.specs.Questions.{ask, first_no}
 use Rattle.stl.specs.Rows.{named, ordered, row_at}
 use Rattle.stl.specs.declared.row.Row.{Row}
 use Rattle.rules.specs.Lists.{questions, answer, added}

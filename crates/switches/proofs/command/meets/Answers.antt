@@ -1,6 +1,6 @@
 use Rattle.std.proofs.Common.{◌&&◌, sym, ap, ◌∙◌}
 use Rattle.std.proofs.lemmas.Bool.{eq-eqb, ne_eqb, and_left}
-use Rattle.switches.specs.Masks.{all_on, all_off}
+use Rattle.switches.specs.Masks.{all_off}
 use Rattle.switches.proofs.Meets.{on_test, off_test}
 use Rattle.switches.proofs.command.meets.Goals as goal
 

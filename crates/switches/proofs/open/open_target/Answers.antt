@@ -1,6 +1,5 @@
-use Rattle.std.proofs.Common.{◌≡◌, Some, sym, ap, ◌∙◌, arith}
+use Rattle.std.proofs.Common.{Some, sym, ap, ◌∙◌, arith}
 use Rattle.std.specs.List.{slice_get}
-use Rattle.switches.specs.Commands.{targets_of}
 use Rattle.switches.proofs.Steps.{open_step, shut_step, no_more, nth_next}
 use Rattle.switches.proofs.open.open_target.Goals as goal
 use Rattle.switches.proofs.open.open_target.Goals.{then-is_open+else-left-eq0, else-is_open}

@@ -6,7 +6,7 @@ pub invariant_of-self : goal.invariant_of-self
 invariant_of-self c =
     let m = c.args.self.now in
     let l : m.len < length m.rows = omega (arith, m.long) in
-    (search rules, (search rules, (ordered_set m.rows m.len c.args.row l (sym c.if-not-names_below.ensures) m.earlier, tt)))
+    record { long = search rules; few = search rules; earlier = ordered_set m.rows m.len c.args.row l (sym c.if-not-names_below.ensures) m.earlier }
 
 pub returns : goal.returns
 returns c =
