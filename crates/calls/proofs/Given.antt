@@ -1,9 +1,9 @@
 -- What a call gives once its questions are answered, one lemma for each answer. Assumes nothing.
-use Rattle.std.proofs.Common.{◌≡◌, ℕ, ◌+◌, ◌<◌, ◌≤◌, Bool, true, false, ltb, leb, ◌⊎◌, List, [], ◌∷◌, ◌++◌, length, Some, None, Option, sym, refl, ap, ◌∙◌, subst, inl, inr, arith}
+use Rattle.std.proofs.Common.{◌≡◌, ℕ, ◌+◌, ◌<◌, ◌≤◌, Bool, true, false, ltb, leb, List, [], ◌∷◌, ◌++◌, length, Some, None, Option, sym, refl, ap, subst, arith}
 use Rattle.std.proofs.lemmas.Bool.{lt-ltb, le-ltb, le-leb, lt-leb}
 use Rattle.lengths.specs.Sheets.{by_sheet, Labelled}
 use Rattle.map.proofs.Asked.{passes, stops}
-use Rattle.map.specs.Questions.{Question, ask, first_no}
+use Rattle.map.specs.Questions.{ask, first_no}
 use Rattle.stl.specs.Iff.{◌⇔◌}
 use Rattle.stl.specs.Rows.{named, is_until, row_at, ForUntil, Reach}
 use Rattle.stl.specs.Structures.{Structure}

@@ -1,6 +1,6 @@
 -- What a session answers to a call: from the structure, the rows, the arguments, the lengths of the tables, and what each row
 -- says at each state. Assumes nothing.
-use Rattle.std.specs.Prelude.{◌≡◌, ℕ, ◌+◌, ◌<◌, ◌≤◌, Bool, true, false, List, [], ◌∷◌, ◌++◌, length, Some, None, Option, nat_le, nat_lt}
+use Rattle.std.specs.Prelude.{◌≡◌, ℕ, ◌+◌, ◌<◌, ◌≤◌, Bool, true, List, [], ◌∷◌, ◌++◌, length, Some, None, Option, nat_le, nat_lt}
 use Rattle.map.specs.Questions.{Question, ask, first_no}
 use Rattle.stl.specs.Iff.{◌⇔◌}
 use Rattle.stl.specs.Rows.{named, is_until, row_at, ForUntil, Reach, by_logic}

@@ -7,7 +7,7 @@ pub invariant_of-self : goal.invariant_of-self
 invariant_of-self g c =
     let x = c.args.self.now in
     let new = row_added x.rules c.add.new.self c.args.row c.in-Ok.r c.in-Ok.ensures.answer c.add.ensures.rows in
-    (omega (arith, x.within, new.longer), tt)
+    record { within = omega (arith, x.within, new.longer) }
 
 pub returns-in-Ok : goal.returns-in-Ok
 returns-in-Ok g c =

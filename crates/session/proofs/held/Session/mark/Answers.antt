@@ -1,4 +1,4 @@
-use Rattle.std.proofs.Common.{◌<◌, arith}
+use Rattle.std.proofs.Common.{arith}
 use Rattle.calls.proofs.Given.{mark_refused, mark_given}
 use Rattle.lengths.specs.Sheets.{by_sheet}
 use Rattle.map.proofs.Moves.{well_formed}
@@ -21,7 +21,7 @@ pub invariant_of-self : goal.invariant_of-self
 invariant_of-self g c =
     let x = c.args.self.now in
     let t = row_there x.rules x.marked c.in-Some.row c.in-Some.ensures in
-    (omega (arith, t.below, rows_long x.rules), tt)
+    record { within = omega (arith, t.below, rows_long x.rules) }
 
 pub returns : goal.returns
 returns g c =
