@@ -3,7 +3,7 @@ use Rattle.std.proofs.Common.{◌≡◌, ℕ, ◌+◌, ◌-◌, ◌*◌, ◌/◌
 use Rattle.std.proofs.lemmas.Int.Digits.{digits_of_step, all_below_base_digits_of, first_digits_of, number_digits_of}
 use Rattle.std.proofs.lemmas.List.{append-nil, append_assoc, map-append, at_drop_more, at_drop_all}
 use Rattle.std.proofs.lemmas.Bool.{cond-true, cond-false, ne_eqb, eqb-false, ltb-true, lt-ltb, le-ltb, le-leb, leb-true, and_parts, and_from, and_right, cases_Bool, cases_eq, not-true, not_from_false}
-use Rattle.std.specs.Int.Digits.{digits_of, number_from_digits_after, number_from_digits, AllBelowBase}
+use Rattle.std.specs.Int.Digits.{digits_of, number_from_digits_after, AllBelowBase}
 use Rattle.text.specs.Numbers.{digit, all_digits, value_after, digits_value, well_formed, number_below, digit_bytes, written, NumberLaws}
 
 -- what is left of a field, read on after the number so far
