@@ -4,7 +4,7 @@
 mod broken;
 mod kinds;
 mod refusals;
-mod rules;
+mod rows;
 mod runs;
 mod show;
 
@@ -46,7 +46,7 @@ fn main(rt: HostRuntime) -> io::Result<()> {
     println!(rt; "")?;
     offer_what_is_broken(&rt)?;
     println!(rt; "")?;
-    rules::hold_the_rows(&rt)?;
+    rows::hold_the_rows(&rt)?;
     println!(rt; "")?;
     runs::step_the_runs(&rt)?;
     println!(rt; "")?;

@@ -1,5 +1,5 @@
 // What a session refuses, each refusal once.
-use crate::rules::ready;
+use crate::rows::ready;
 use crate::show;
 use calls::fault::SessionFault;
 use listed::table::ListedMap;

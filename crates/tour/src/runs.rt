@@ -1,5 +1,5 @@
 // Shortest runs on the four-state map.
-use crate::rules::ready;
+use crate::rows::ready;
 use crate::show;
 use listed::table::ListedMap;
 use map::Map;
