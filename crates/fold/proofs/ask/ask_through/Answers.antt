@@ -18,4 +18,4 @@ returns g c =
     let fits = g.G.Map.bounded c.args.folded.now in
     let given = subst (λ d. Gives k st (alone sheet) (call.Label d c.args.r) (answered answer.Label c.label.result) st (alone sheet)) c.class_or_none.ensures c.label.ensures in
     let label = label_asked k st sheet table c.args.s c.args.r fits.size_fits c.label.result given in
-    record { label = label; logic = speaks g.G.L.Look.sign g.G.L.Look.same g.G.L.Look.agree m fits table st sheet c.args.s c.args.r c.label.result label }
+    record { label = label; logic = speaks g.G.L.Look.sign g.G.L.Look.same g.met.G.L.Look.agree m fits table st sheet c.args.s c.args.r c.label.result label }

@@ -6,5 +6,5 @@ use Rattle.fold.proofs.both.perform_all.Goals as goal
 pub returns : goal.returns
 returns g c = record {
   told = (omega arith, c.play.ensures);
-  both = after_all g.F.L.Look.sign g.F.L.Look.same g.F.L.Look.agree _ _ _ (g.F.Map.bounded c.args.full.now) (g.G.Map.bounded c.args.folded.now) (played_all (omega arith) c.play.ensures);
+  both = after_all g.F.L.Look.sign g.F.L.Look.same g.met.F.L.Look.agree _ _ _ (g.F.Map.bounded c.args.full.now) (g.G.Map.bounded c.args.folded.now) (played_all (omega arith) c.play.ensures);
 }

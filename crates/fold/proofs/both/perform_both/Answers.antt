@@ -18,6 +18,6 @@ returns g c =
     record {
       full = c.perform-answer.ensures.gives;
       folded = gave;
-      both = after_both sign g.F.L.Look.same g.F.L.Look.agree full folded c.args.fold.now.table.now (g.F.Map.bounded c.args.full.now) (g.G.Map.bounded c.args.folded.now) _ _ refl c.perform-answer.ensures.gives gave;
+      both = after_both sign g.F.L.Look.same g.met.F.L.Look.agree full folded c.args.fold.now.table.now (g.F.Map.bounded c.args.full.now) (g.G.Map.bounded c.args.folded.now) _ _ refl c.perform-answer.ensures.gives gave;
       always = folds_share;
     }

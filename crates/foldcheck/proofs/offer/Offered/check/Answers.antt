@@ -31,5 +31,5 @@ pub returns : goal.returns
 returns g c = record {
   table = refl;
   verdict = accepted _ _ _ _ _ (omega arith) c.in_default.ensures c.in_default-lowest_no.ensures c.in_default-lowest_no-2.ensures c.in_default-lowest_no-3.ensures c.in_default-lowest_no-4.ensures c.in_default-lowest_no-5.ensures c.in_default-lowest_no-6.ensures;
-  share = (folds_stand _ _ g.F.L.Look.agree _ _ _ (g.F.Map.bounded c.args.full.now) (g.G.Map.bounded c.args.folded.now) (accepts _ _ _ _ _ (omega arith) c.in_default.ensures c.in_default-lowest_no.ensures c.in_default-lowest_no-2.ensures c.in_default-lowest_no-3.ensures c.in_default-lowest_no-4.ensures c.in_default-lowest_no-5.ensures c.in_default-lowest_no-6.ensures)).1;
+  share = (folds_stand _ _ g.met.F.L.Look.agree _ _ _ (g.F.Map.bounded c.args.full.now) (g.G.Map.bounded c.args.folded.now) (accepts _ _ _ _ _ (omega arith) c.in_default.ensures c.in_default-lowest_no.ensures c.in_default-lowest_no-2.ensures c.in_default-lowest_no-3.ensures c.in_default-lowest_no-4.ensures c.in_default-lowest_no-5.ensures c.in_default-lowest_no-6.ensures)).1;
 }
