@@ -10,9 +10,9 @@ returns g c =
     let after = c.chain.new.out in
     let r = c.chain.result in
     let written = subst₂ (λ first second. Chained first second before r after) c.classes.ensures c.classes-2.ensures c.chain.ensures in
-    let laws = g.F.L.Look in
+    let laws = g.met.L.Look in
     record {
       chained = written;
-      joins = joins g.F.L.Look.sign g.F.L.Look.same laws.transitive laws.agree _ _ before after r written;
-      stands = chains_stand g.F.L.Look.sign g.F.L.Look.same laws.transitive laws.agree;
+      joins = joins g.L.Look.sign g.L.Look.same laws.transitive laws.agree _ _ before after r written;
+      stands = chains_stand g.L.Look.sign g.L.Look.same laws.transitive laws.agree;
     }
