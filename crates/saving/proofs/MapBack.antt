@@ -3,7 +3,7 @@ use Rattle.std.proofs.Common.{◌≡◌, ℕ, zero, suc, ◌+◌, ◌*◌, ◌^�
 use Rattle.std.proofs.ByRecursion.{All-from_get_or}
 use Rattle.std.proofs.lemmas.List.{length-append, length-map}
 use Rattle.std.proofs.lemmas.Bool.{and_from, lt-ltb, le-leb, eq-eqb}
-use Rattle.std.specs.List.{AllByRecursion as All}
+use Rattle.std.specs.List.{AllByRecursion}
 use Rattle.listed.specs.Tables.{Tables, questions, listed}
 use Rattle.listed.specs.declared.fault.ListedFault.{ListedFault}
 use Rattle.look.specs.declared.switch.SwitchLook.{SwitchLook}
@@ -45,7 +45,7 @@ fit_append : (lines more : List Line) → AllFit lines → AllFit more → AllFi
 fit_append [] more h k = k
 fit_append (line ∷ lines) more h k = (h.0, fit_append lines more h.1 k)
 
-fit_targets : (ts : List ℕ) → All (λ t. t < 2 ^ 32) ts → AllFit (map Target ts)
+fit_targets : (ts : List ℕ) → AllByRecursion (λ t. t < 2 ^ 32) ts → AllFit (map Target ts)
 fit_targets [] h = tt
 fit_targets (t ∷ ts) h = (h.0, fit_targets ts h.1)
 

@@ -4,7 +4,7 @@ use Rattle.std.proofs.lemmas.Int.Digits.{length-digits_of-le}
 use Rattle.std.proofs.lemmas.List.{append_assoc, append-nil, length-append, length-map, length_push}
 use Rattle.std.proofs.lemmas.Bool.{and_parts, cond_both, cond-true, lt-ltb, le-leb}
 use Rattle.std.specs.Int.Digits.{digits_of}
-use Rattle.std.specs.List.{AllByRecursion as All}
+use Rattle.std.specs.List.{AllByRecursion}
 use Rattle.calls.specs.Answers.{State, questions}
 use Rattle.calls.specs.Opening.{fresh}
 use Rattle.calls.specs.declared.call.Call.TheVariants as call
@@ -23,7 +23,7 @@ use Rattle.text.specs.declared.line.Line.TheVariants.{Rule}
 use Rattle.saving.specs.ReadBack.{RulesReadBack}
 use Rattle.saving.specs.Texts.{rule_text}
 
-fit_rows : (rows : List Row) → All RowFits rows → AllFit (map Rule rows)
+fit_rows : (rows : List Row) → AllByRecursion RowFits rows → AllFit (map Rule rows)
 fit_rows [] h = tt
 fit_rows (row ∷ rows) h = (h.0, fit_rows rows h.1)
 
@@ -48,7 +48,7 @@ row_short (Or a b) h = two_short (codes "or") a b (omega arith) h.0 h.1
 row_short (Next a) h = one_short (codes "next") a (omega arith) h
 row_short (Until a b) h = two_short (codes "until") a b (omega arith) h.0 h.1
 
-text_short : (rows : List Row) → All RowFits rows → length (rule_text rows) ≤ 32 * length rows
+text_short : (rows : List Row) → AllByRecursion RowFits rows → length (rule_text rows) ≤ 32 * length rows
 text_short [] h = omega arith
 text_short (row ∷ rows) h = omega (arith, length-append (written_line (Rule row)) (10 ∷ rule_text rows), row_short row h.0, text_short rows h.1)
 

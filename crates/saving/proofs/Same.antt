@@ -5,7 +5,7 @@ use Rattle.std.proofs.ByRecursion.{All-get_or, All-from_get_or, All-append}
 use Rattle.std.proofs.lemmas.List.{append_assoc, append-nil, take_at, drop_at, nil_from_length}
 use Rattle.std.proofs.lemmas.Option.{slice_get-get_or, slice_get_past}
 use Rattle.std.proofs.lemmas.Bool.{and_from, and_left, cond-true, cond-false, lt-ltb, le-ltb, le-leb, eq-eqb, cases_lt, cases_eq, cases_Bool}
-use Rattle.std.specs.List.{between, AllByRecursion as All}
+use Rattle.std.specs.List.{between, AllByRecursion}
 use Rattle.listed.specs.Tables.{right_first, questions, list_of, listed}
 use Rattle.look.specs.declared.switch.SwitchLook.{SwitchLook}
 use Rattle.map.proofs.Asked.{passes}
@@ -46,7 +46,7 @@ module _ (m : Meaning SwitchLook) where
       (cases_eq s (suc n))
 
   module _ (b : Bounded m) where
-    targets_fit : (n : ℕ) → All (λ t. t < m.size) (targets_below m n)
+    targets_fit : (n : ℕ) → AllByRecursion (λ t. t < m.size) (targets_below m n)
     targets_fit zero = tt
     targets_fit (suc n) = All-append (λ t. t < m.size) (targets_below m n) (m.list n) (targets_fit n) (All-from_get_or (λ t. t < m.size) (m.list n) 0 (b.targets_fit n))
 

@@ -1,6 +1,6 @@
 -- What is written reads back: the text of a map is read as that map, and the text of rows as those rows. Assumes nothing.
 use Rattle.std.specs.Prelude.{◌≡◌, ℕ, zero, suc, ◌+◌, ◌^◌, ◌<◌, ◌≤◌, List, length, None, Ok}
-use Rattle.std.specs.List.{AllByRecursion as All}
+use Rattle.std.specs.List.{AllByRecursion}
 use Rattle.calls.specs.Opening.{fresh}
 use Rattle.listed.specs.Tables.{Tables, questions, listed}
 use Rattle.look.specs.declared.switch.SwitchLook.{SwitchLook}
@@ -53,5 +53,5 @@ MapReadsBack m = (t : Tables SwitchLook) → Room m t → LooksFit m → length 
 
 -- the text of rows is read as those rows into a session just opened, on any structure that its sheet has words for
 abbrev pub RulesReadBack : List Row → Type 0
-RulesReadBack rows = (k : Structure) (words : ℕ) → k.size ≤ words → All RowFits rows →
+RulesReadBack rows = (k : Structure) (words : ℕ) → k.size ≤ words → AllByRecursion RowFits rows →
     rule_read k words fresh (rule_text rows) ≡ record { left = record { rows = rows; marked = 0 }; fault = None }

@@ -2,7 +2,7 @@
 use Rattle.std.proofs.Common.{◌≡◌, ℕ, ◌<◌, ◌≤◌, Bool, true, ltb, ◌⊎◌, List, [], ◌∷◌, ◌++◌, map, length, sym, refl, ap, ◌∙◌, subst, ap₂, subst₂, inl, inr, arith}
 use Rattle.std.proofs.lemmas.List.{map_push}
 use Rattle.std.proofs.lemmas.Bool.{cases_lt, lt-ltb, cond-true, le-ltb, cond-false}
-use Rattle.std.specs.List.{AllByRecursion as All}
+use Rattle.std.specs.List.{AllByRecursion}
 use Rattle.calls.proofs.OneMap.{all_right}
 use Rattle.calls.specs.Alike.{SameState, Alike}
 use Rattle.calls.specs.Answers.{Lent}
@@ -45,7 +45,7 @@ same_room full folded t u v w e f (call.Witness s q) r =
     }
 
 -- the last of a list
-all_but_last : {X : Type 0} (P : X → Type 0) (xs : List X) (x : X) → All P (xs ++ (x ∷ [])) → All P xs × P x
+all_but_last : {X : Type 0} (P : X → Type 0) (xs : List X) (x : X) → AllByRecursion P (xs ++ (x ∷ [])) → AllByRecursion P xs × P x
 all_but_last P [] x h = (tt, h.0)
 all_but_last P (y ∷ xs) x h = let so = all_but_last P xs x h.1 in ((h.0, so.0), so.1)
 

@@ -1,6 +1,6 @@
 -- A list of calls, made on two sessions side by side. Assumes nothing.
 use Rattle.std.specs.Prelude.{◌≡◌, ℕ, Bool, List, [], ◌∷◌, ◌++◌, map}
-use Rattle.std.specs.List.{AllByRecursion as All}
+use Rattle.std.specs.List.{AllByRecursion}
 use Rattle.calls.specs.Answers.{State}
 use Rattle.calls.specs.Effects.{Tables, lent, Gives}
 use Rattle.calls.specs.Histories.{Moment}
@@ -50,5 +50,5 @@ abbrev pub AfterAll : {L : Type 0} → (L → ℕ → Bool) → (L → L → Boo
 AfterAll sign same full folded table begin calls answers others end =
     Accepts sign same full folded table →
     (ms ns : List Moment) → SideBySide (structure sign full) (structure sign folded) (class_of table) begin.on_full begin.on_folded begin.tables_full.sheet begin.tables_folded.sheet ms ns →
-    All (λ c. ForWitness c (SameRoom (structure sign full) (structure sign folded) begin.tables_full begin.tables_folded)) calls →
+    AllByRecursion (λ c. ForWitness c (SameRoom (structure sign full) (structure sign folded) begin.tables_full begin.tables_folded)) calls →
     PlayedBoth (structure sign full) (structure sign folded) table ms ns calls answers others end

@@ -6,7 +6,7 @@ use Rattle.std.proofs.ByRecursion.{All-get_or}
 use Rattle.std.proofs.lemmas.List.{length-map}
 use Rattle.std.proofs.lemmas.List.Sums.{length-filter, count_by-le-length}
 use Rattle.std.proofs.lemmas.Bool.{and_parts, and_left, or_from, cond-true, cond-false, lt-ltb, le-ltb, ltb-true, cases_lt}
-use Rattle.std.specs.List.{AllByRecursion as All}
+use Rattle.std.specs.List.{AllByRecursion}
 use Rattle.map.specs.Meaning.{Bounded}
 use Rattle.switches.specs.Commands.{is_open, target_of, targets_of}
 use Rattle.switches.specs.Masks.{within, all_off}
@@ -25,13 +25,13 @@ target_below n c s e h =
     let on : c.turn_on < 2 ^ n = ltb-true _ _ (and_parts _ (within n c.turn_off) turns).0 in
     set_below _ 32 n (λ j l _. or_from _ _ (and_left _ _ (none_high n s j h l)) (none_high n c.turn_on j on l))
 
-targets_below : (n : ℕ) (commands : List Command) (s : ℕ) → right_commands n commands ≡ true → s < 2 ^ n → All (λ t. t < 2 ^ n) (targets_of commands s)
+targets_below : (n : ℕ) (commands : List Command) (s : ℕ) → right_commands n commands ≡ true → s < 2 ^ n → AllByRecursion (λ t. t < 2 ^ n) (targets_of commands s)
 targets_below n [] s e h = tt
 targets_below n (c ∷ more) s e h =
     let p = and_parts (right_command n c) (right_commands n more) e in
     one_more (is_open c s) (filter (λ x. is_open x s) more) (targets_below n more s p.1 h) (target_below n c s p.0 h)
   where
-    one_more : (b : Bool) (rest : List Command) → All (λ t. t < 2 ^ n) (map (λ x. target_of x s) rest) → target_of c s < 2 ^ n → All (λ t. t < 2 ^ n) (map (λ x. target_of x s) (cond b (c ∷ rest) rest))
+    one_more : (b : Bool) (rest : List Command) → AllByRecursion (λ t. t < 2 ^ n) (map (λ x. target_of x s) rest) → target_of c s < 2 ^ n → AllByRecursion (λ t. t < 2 ^ n) (map (λ x. target_of x s) (cond b (c ∷ rest) rest))
     one_more true rest below here = (here, below)
     one_more false rest below here = below
 
