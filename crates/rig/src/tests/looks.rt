@@ -25,7 +25,7 @@ fn a_switch_look_shows_its_marks(rt: HostRuntime) {
         assert!(rt;
             !look.same_as(&SwitchLook {
                 marks: marks ^ 0x1_0000,
-            },)
+            })
         );
     }
 }
@@ -81,18 +81,18 @@ fn a_joint_look_shows_both_in_turn(rt: HostRuntime) {
         both.same_as(&JointLook {
             left,
             right: LevelLook { cue: 9, level: 47 },
-        },)
+        })
     );
     assert!(rt;
         !both.same_as(&JointLook {
             left,
             right: LevelLook { cue: 1, level: 48 },
-        },)
+        })
     );
     assert!(rt;
         !both.same_as(&JointLook {
             left: SwitchLook { marks: 4 },
             right,
-        },)
+        })
     );
 }
