@@ -11,7 +11,11 @@ use std::io;
 use stl::row::Row;
 
 // What was tried, and the refusal that it got.
-fn tried<T: Drop>(rt: &HostRuntime, what: &str, outcome: Result<T, SessionFault>) -> io::Result<()> {
+fn tried<T: Drop>(
+    rt: &HostRuntime,
+    what: &str,
+    outcome: Result<T, SessionFault>,
+) -> io::Result<()> {
     print!(rt; "{what} ")?;
     match outcome {
         Ok(_) => println!(rt; "Granted."),
