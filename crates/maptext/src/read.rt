@@ -2,7 +2,7 @@
 ghost use Rattle.std.specs.Prelude.{◌≡◌, ◌+◌, ◌<◌, ◌≤◌, length, IfOk, slice_set};
 ghost use Rattle.listed.specs.Tables.{tables, questions};
 ghost use Rattle.map.specs.Questions.{first_no};
-ghost use Rattle.maptext.specs.MapTexts.{target_line as line-of-target, fault_line, complete, part, made_of, map_read, Read, Within};
+ghost use Rattle.maptext.specs.MapTexts.{target_line as line_of_target, fault_line, complete, part, made_of, map_read, Read, Within};
 ghost use Rattle.maptext.specs.Steps.{reading};
 ghost use Rattle.reader.specs.Texts.{text_lines};
 
@@ -18,7 +18,7 @@ use text::line::Line;
 // The number of T line k of a text, counted from 0.
 fn target_line(text: &[u8], k: u32) -> u32
     requires { length text.now ≤ 60000 }
-    ensures { result ≡ line-of-target 1 k (text_lines text.now) }
+    ensures { result ≡ line_of_target 1 k (text_lines text.now) }
 {
     let mut line = 1;
     let mut left = k;

@@ -13,7 +13,7 @@ use Rattle.stl.specs.Rows.{by_logic}
 use Rattle.stl.specs.Structures.{Structure}
 use Rattle.stl.specs.Until.{Shortest}
 use Rattle.stl.specs.declared.row.Row.TheVariants.{True, Sign, Not, Or, Until, Next}
-use Rattle.switches.specs.Switched.{questions as asked-of-switches, switched}
+use Rattle.switches.specs.Switched.{questions as asked_of_switches, switched}
 use Rattle.rig.specs.declared.Rig.{Rig}
 
 -- the tables of the four-state map
@@ -57,6 +57,6 @@ pub record WorkedFacts (r : Rig) : Type 0 where
   pub same_step : level_same 32 47 ≡ true
   pub next_step : level_same 47 48 ≡ false
   -- two switches, and a command that needs switch 0 off, turns it on and switch 1 off: 0 and 2 move to 1, 1 and 3 do not move
-  pub switches_made : first_no (asked-of-switches r.panel r.commands) ≡ None
+  pub switches_made : first_no (asked_of_switches r.panel r.commands) ≡ None
   pub switches_size : (two_switches r).size ≡ 4
   pub switches_move : map (two_switches r).list (0 ∷ (1 ∷ (2 ∷ (3 ∷ [])))) ≡ (1 ∷ []) ∷ ([] ∷ ((1 ∷ []) ∷ ([] ∷ [])))

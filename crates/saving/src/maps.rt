@@ -1,5 +1,5 @@
 // The text of a map.
-ghost use Rattle.std.specs.Prelude.{◌≡◌, ◌^◌, ◌<◌, ◌≤◌, map as list-map, length, OnOk, OnSome, slice_index};
+ghost use Rattle.std.specs.Prelude.{◌≡◌, ◌^◌, ◌<◌, ◌≤◌, map as list_map, length, OnOk, OnSome, slice_index};
 ghost use Rattle.reader.specs.Texts.{written_text};
 ghost use Rattle.saving.specs.ReadBack.{MapReadsBack, LooksFit};
 ghost use Rattle.saving.specs.Texts.{ended, marks_of, start_of, lines_of, first_states, map_text};
@@ -65,7 +65,7 @@ fn put_targets<M: Map<L = SwitchLook>>(
     mut at: usize,
 ) -> Option<usize>
     requires { at ≤ length out.old }
-    ensures { Put pen out.old at (written_text (list-map line.Target ((M.meaning map.now).list s))) out.new result }
+    ensures { Put pen out.old at (written_text (list_map line.Target ((M.meaning map.now).list s))) out.new result }
 {
     for k in 0..map.list_len(s) {
         at = put_target(pen, map, s, k, out, at)?;
