@@ -1,6 +1,7 @@
 // Why a session refuses a call.
-ghost use Rattle.std.specs.Prelude.{◌≡◌};
 ghost use Rattle.calls.specs.Faults.{refusal};
+
+use map::refusal::Refusal;
 
 // Each case is the no to one question.
 #[derive(Clone, Copy, PartialEq, Eq, Debug)]
@@ -29,11 +30,10 @@ pub enum SessionFault {
     ShortRun(u32),
 }
 
-impl SessionFault {
-    // The number by which the refusal is known.
-    pub fn number(self) -> u8
-        ensures { result ≡ (refusal self).number }
-    {
+impl Refusal for SessionFault {
+    ghost told = { λ f. refusal f };
+
+    fn number(self) -> u8 {
         match self {
             SessionFault::NoState => 16,
             SessionFault::ShortSheet => 17,
@@ -49,10 +49,7 @@ impl SessionFault {
         }
     }
 
-    // The length that the refusal carries, if it carries one.
-    pub fn length(self) -> Option<u32>
-        ensures { result ≡ (refusal self).carried }
-    {
+    fn carried(self) -> Option<u32> {
         match self {
             SessionFault::ShortRun(n) => Some(n),
             _ => None,

@@ -1,6 +1,7 @@
 // Why two class tables are not chained.
-ghost use Rattle.std.specs.Prelude.{◌≡◌};
 ghost use Rattle.fold.specs.Faults.{refusal};
+
+use map::refusal::Refusal;
 
 // Each case is the no to one question. Neither carries a value.
 #[derive(Clone, Copy, PartialEq, Eq, Debug)]
@@ -11,14 +12,17 @@ pub enum ChainFault {
     NoEntry,
 }
 
-impl ChainFault {
-    // The number by which the refusal is known.
-    pub fn number(self) -> u8
-        ensures { result ≡ (refusal self).number }
-    {
+impl Refusal for ChainFault {
+    ghost told = { λ f. refusal f };
+
+    fn number(self) -> u8 {
         match self {
             ChainFault::WrongLength => 35,
             ChainFault::NoEntry => 36,
         }
+    }
+
+    fn carried(self) -> Option<u32> {
+        None
     }
 }

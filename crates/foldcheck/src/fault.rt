@@ -1,6 +1,7 @@
 // Why an offered fold is refused.
-ghost use Rattle.std.specs.Prelude.{◌≡◌};
 ghost use Rattle.foldcheck.specs.Faults.{refusal};
+
+use map::refusal::Refusal;
 
 // Each case is the no to one question, with the lowest state that has one.
 #[derive(Clone, Copy, PartialEq, Eq, Debug)]
@@ -23,11 +24,10 @@ pub enum FoldFault {
     NotAClass(u32),
 }
 
-impl FoldFault {
-    // The number by which the refusal is known.
-    pub fn number(self) -> u8
-        ensures { result ≡ (refusal self).number }
-    {
+impl Refusal for FoldFault {
+    ghost told = { λ f. refusal f };
+
+    fn number(self) -> u8 {
         match self {
             FoldFault::WrongLength => 27,
             FoldFault::NoClass(_) => 28,
@@ -40,10 +40,7 @@ impl FoldFault {
         }
     }
 
-    // The state that the refusal carries, if it carries one.
-    pub fn state(self) -> Option<u32>
-        ensures { result ≡ (refusal self).carried }
-    {
+    fn carried(self) -> Option<u32> {
         match self {
             FoldFault::WrongLength => None,
             FoldFault::NoClass(s) => Some(s),

@@ -1,6 +1,7 @@
 // Why two maps make no joint map.
-ghost use Rattle.std.specs.Prelude.{◌≡◌};
 ghost use Rattle.joint.specs.Faults.{refusal};
+
+use map::refusal::Refusal;
 
 // Each case is the no to one question. Neither carries a value.
 #[derive(Clone, Copy, PartialEq, Eq, Debug)]
@@ -11,14 +12,17 @@ pub enum JointFault {
     ListsTooLong,
 }
 
-impl JointFault {
-    // The number by which the refusal is known.
-    pub fn number(self) -> u8
-        ensures { result ≡ (refusal self).number }
-    {
+impl Refusal for JointFault {
+    ghost told = { λ f. refusal f };
+
+    fn number(self) -> u8 {
         match self {
             JointFault::TooManyStates => 8,
             JointFault::ListsTooLong => 9,
         }
+    }
+
+    fn carried(self) -> Option<u32> {
+        None
     }
 }

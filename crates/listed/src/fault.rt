@@ -1,6 +1,7 @@
 // What is wrong with tables that make no map.
-ghost use Rattle.std.specs.Prelude.{◌≡◌};
 ghost use Rattle.listed.specs.Faults.{refusal};
+
+use map::refusal::Refusal;
 
 // Each case is the no to one question; an entry is counted from 0 in its table.
 #[derive(Clone, Copy, PartialEq, Eq, Debug)]
@@ -15,11 +16,10 @@ pub enum ListedFault {
     WrongTarget(u32),
 }
 
-impl ListedFault {
-    // The number by which the refusal is known.
-    pub fn number(self) -> u8
-        ensures { result ≡ (refusal self).number }
-    {
+impl Refusal for ListedFault {
+    ghost told = { λ f. refusal f };
+
+    fn number(self) -> u8 {
         match self {
             ListedFault::TooManyLooks => 1,
             ListedFault::WrongLengths => 2,
@@ -28,10 +28,7 @@ impl ListedFault {
         }
     }
 
-    // The entry at fault, where the refusal carries one.
-    pub fn entry(self) -> Option<u32>
-        ensures { result ≡ (refusal self).carried }
-    {
+    fn carried(self) -> Option<u32> {
         match self {
             ListedFault::TooManyLooks | ListedFault::WrongLengths => None,
             ListedFault::WrongFirst(i) | ListedFault::WrongTarget(i) => Some(i),

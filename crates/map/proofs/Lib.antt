@@ -1,3 +1,4 @@
 pub mod Count
 pub mod Asked
 pub mod Moves
+pub mod Searches

@@ -9,6 +9,7 @@ ghost use Rattle.std.specs.List.{slice_get};
 use look::Look;
 
 pub mod read;
+pub mod refusal;
 
 // A kind of map. Asked for a state or an entry that it does not have, it answers that there is none.
 pub trait Map {

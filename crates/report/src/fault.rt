@@ -1,6 +1,7 @@
 // Why there is no report.
-ghost use Rattle.std.specs.Prelude.{◌≡◌};
 ghost use Rattle.report.specs.Faults.{refusal};
+
+use map::refusal::Refusal;
 
 #[derive(Clone, Copy, PartialEq, Eq, Debug)]
 pub enum ReportFault {
@@ -10,14 +11,17 @@ pub enum ReportFault {
     NoRoom,
 }
 
-impl ReportFault {
-    // The number by which the refusal is known.
-    pub fn number(self) -> u8
-        ensures { result ≡ (refusal self).number }
-    {
+impl Refusal for ReportFault {
+    ghost told = { λ f. refusal f };
+
+    fn number(self) -> u8 {
         match self {
             ReportFault::ShortSheet => 17,
             ReportFault::NoRoom => 37,
         }
+    }
+
+    fn carried(self) -> Option<u32> {
+        None
     }
 }

@@ -1,6 +1,7 @@
 // Why a row is not added.
-ghost use Rattle.std.specs.Prelude.{◌≡◌};
 ghost use Rattle.rules.specs.Faults.{refusal};
+
+use map::refusal::Refusal;
 
 #[derive(Clone, Copy, PartialEq, Eq, Debug)]
 pub enum RuleFault {
@@ -10,14 +11,17 @@ pub enum RuleFault {
     NamesLaterRow,
 }
 
-impl RuleFault {
-    // The number by which the refusal is known.
-    pub fn number(self) -> u8
-        ensures { result ≡ (refusal self).number }
-    {
+impl Refusal for RuleFault {
+    ghost told = { λ f. refusal f };
+
+    fn number(self) -> u8 {
         match self {
             RuleFault::TooManyRows => 18,
             RuleFault::NamesLaterRow => 19,
         }
+    }
+
+    fn carried(self) -> Option<u32> {
+        None
     }
 }

@@ -1,6 +1,7 @@
 // What is wrong with a panel and commands that make no map.
-ghost use Rattle.std.specs.Prelude.{◌≡◌};
 ghost use Rattle.switches.specs.Faults.{refusal};
+
+use map::refusal::Refusal;
 
 // Each case is the no to one question.
 #[derive(Clone, Copy, PartialEq, Eq, Debug)]
@@ -13,15 +14,18 @@ pub enum SwitchFault {
     WrongMask,
 }
 
-impl SwitchFault {
-    // The number by which the refusal is known.
-    pub fn number(self) -> u8
-        ensures { result ≡ (refusal self).number }
-    {
+impl Refusal for SwitchFault {
+    ghost told = { λ f. refusal f };
+
+    fn number(self) -> u8 {
         match self {
             SwitchFault::WrongSwitchCount => 5,
             SwitchFault::TooManyCommands => 6,
             SwitchFault::WrongMask => 7,
         }
+    }
+
+    fn carried(self) -> Option<u32> {
+        None
     }
 }

@@ -4,6 +4,7 @@ ghost use Rattle.text.specs.Faults.{refusal};
 ghost use Rattle.text.specs.Lines.{fields, line_of, map_line, state_line, target_line, rule_line};
 ghost use Rattle.text.specs.Written.{LineLaws};
 
+use map::refusal::Refusal;
 use crate::field::{read_one, read_two};
 use crate::kind::read_row;
 use crate::number::{NUMBERS, STARTS};
@@ -31,21 +32,17 @@ pub enum LineFault {
     BadNumber(u32),
 }
 
-impl LineFault {
-    // The number by which the refusal is known.
-    pub fn number(self) -> u8
-        ensures { result ≡ (refusal self).number }
-    {
+impl Refusal for LineFault {
+    ghost told = { λ f. refusal f };
+
+    fn number(self) -> u8 {
         match self {
             LineFault::NotOfAForm => 11,
             LineFault::BadNumber(_) => 12,
         }
     }
 
-    // The field at fault, where the refusal carries one.
-    pub fn field(self) -> Option<u32>
-        ensures { result ≡ (refusal self).carried }
-    {
+    fn carried(self) -> Option<u32> {
         match self {
             LineFault::NotOfAForm => None,
             LineFault::BadNumber(field) => Some(field),

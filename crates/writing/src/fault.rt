@@ -1,6 +1,7 @@
 // Why a text is not saved.
-ghost use Rattle.std.specs.Prelude.{◌≡◌};
 ghost use Rattle.writing.specs.Faults.{refusal};
+
+use map::refusal::Refusal;
 
 #[derive(Clone, Copy, PartialEq, Eq, Debug)]
 pub enum SaveFault {
@@ -8,13 +9,16 @@ pub enum SaveFault {
     NoRoom,
 }
 
-impl SaveFault {
-    // The number by which the refusal is known.
-    pub fn number(self) -> u8
-        ensures { result ≡ (refusal self).number }
-    {
+impl Refusal for SaveFault {
+    ghost told = { λ f. refusal f };
+
+    fn number(self) -> u8 {
         match self {
             SaveFault::NoRoom => 37,
         }
+    }
+
+    fn carried(self) -> Option<u32> {
+        None
     }
 }
