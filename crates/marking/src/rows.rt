@@ -1,43 +1,31 @@
 // The labels of one row, by the labels of the rows that it names.
-ghost use Rattle.std.specs.Prelude.{◌≡◌, ℕ, ◌<◌, ◌≤◌, true, length};
+ghost use Rattle.std.specs.Prelude.{◌≡◌, ℕ, ◌<◌, ◌≤◌, true, length, Decides};
 ghost use Rattle.lengths.specs.Sheets.{by_sheet, Labelled};
 ghost use Rattle.map.specs.Meaning.{structure};
 ghost use Rattle.marking.specs.Timed.{Timed};
-ghost use Rattle.stl.specs.Iff.{◌⇔◌};
 ghost use Rattle.stl.specs.Rows.{Satisfied, named, Reach};
 ghost use Rattle.stl.specs.Structures.{Move};
 
 use lengths::labels::{labelled, with_bit};
-use lengths::rounds::{NONE, lengths};
+use lengths::rounds::{NONE, Until};
 use look::Look;
 use map::Map;
-use map::read::sign_at;
+use map::read::{sign_at, some_target};
 use stl::row::Row;
 
 // Whether a move from s leads to a state with the label of row a.
 fn some_move<M: Map>(map: &M, sheet: &[u64], a: u32, s: u32) -> bool
-    requires row { a < 64 }
-    requires words { (M.meaning map.now).size ≤ length sheet.now }
-    ensures { (result ≡ true) ⇔ ((t : ℕ) × Move (structure M.L.Look.sign (M.meaning map.now)) s t × by_sheet sheet.now a t) }
+    ensures { Decides result ((t : ℕ) × Move (structure M.L.Look.sign (M.meaning map.now)) s t × by_sheet sheet.now a t) }
 {
-    for k in 0..map.list_len(s) {
-        if let Some(t) = map.entry(s, k) {
-            if labelled(sheet, a, t) {
-                return true;
-            }
-        }
-    }
-    false
+    some_target(map, s, |t| labelled(sheet, a, t))
 }
 
 // Whether the row is satisfied at s. An until is read off the table of its lengths.
 fn satisfied<M: Map>(map: &M, sheet: &[u64], work: &[u32], row: Row, s: u32) -> bool
     requires state { s < (M.meaning map.now).size }
-    requires words { (M.meaning map.now).size ≤ length sheet.now }
     requires entries { (M.meaning map.now).size ≤ length work.now }
-    requires earlier { named row 64 ≡ true }
     requires timed { Timed (structure M.L.Look.sign (M.meaning map.now)) sheet.now work.now row }
-    ensures { (result ≡ true) ⇔ Satisfied (structure M.L.Look.sign (M.meaning map.now)) (by_sheet sheet.now) row s }
+    ensures { Decides result (Satisfied (structure M.L.Look.sign (M.meaning map.now)) (by_sheet sheet.now) row s) }
 {
     match row {
         Row::True => true,
@@ -74,7 +62,7 @@ pub fn mark_row<M: Map>(map: &M, sheet: &mut [u64], r: u32, row: Row) -> u32
 {
     let mut work = [NONE; 4096];
     let reach = match row {
-        Row::Until(a, b) => lengths(map, sheet, a, b, &mut work),
+        Row::Until(a, b) => Until { map, sheet, a, b }.lengths(&mut work),
         _ => 0,
     };
     write_row(map, sheet, r, row, &work);

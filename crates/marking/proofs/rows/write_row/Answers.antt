@@ -1,6 +1,5 @@
 use Rattle.std.proofs.Common.{◌<◌, length, sym, subst, arith}
 use Rattle.map.specs.Meaning.{structure}
-use Rattle.stl.proofs.Rows.{named_more}
 use Rattle.marking.proofs.Labels.{timed_same, labelled_more}
 use Rattle.marking.proofs.rows.write_row.Goals as goal
 
@@ -9,9 +8,7 @@ satisfied-b-requires g c =
     let k = structure g.M.L.Look.sign (g.M.Map.meaning c.args.map.now) in
     record {
       state = omega arith;
-      words = omega arith;
       entries = c.requires.entries;
-      earlier = named_more c.args.row c.args.r 64 (omega arith) c.requires.earlier;
       timed = subst (λ T. T) (sym (timed_same k c.loop-s.sheet c.args.sheet.now c.args.r c.loop-s.invariant.other c.args.row c.args.work.now c.requires.earlier)) c.requires.timed;
     }
 

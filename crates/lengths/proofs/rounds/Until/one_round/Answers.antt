@@ -2,16 +2,16 @@ use Rattle.std.proofs.Common.{◌+◌, ◌<◌, ◌≤◌, length, arith}
 use Rattle.std.proofs.lemmas.Bool.{both_ways}
 use Rattle.map.proofs.Moves.{well_formed}
 use Rattle.lengths.proofs.Sweeps.{sweep_none, sweep_on, sweep_give, swept_as}
-use Rattle.lengths.proofs.rounds.one_round.Goals as goal
-use Rattle.lengths.proofs.rounds.one_round.Goals.{then-due, else-due}
+use Rattle.lengths.proofs.rounds.Until.one_round.Goals as goal
+use Rattle.lengths.proofs.rounds.Until.one_round.Goals.{then-due, else-due}
 
 pub loop-s-init : goal.loop-s-init
 loop-s-init g c = sweep_none c.requires.round
 
 pub loop-s-preserved : goal.loop-s-preserved
 loop-s-preserved g c =
-    let size = (g.M.Map.meaning c.args.map.now).size in
-    let shut = well_formed g.M.L.Look.sign _ (g.M.Map.bounded c.args.map.now) in
+    let size = (g.M.Map.meaning c.args.self.now.map.now).size in
+    let shut = well_formed g.M.L.Look.sign _ (g.M.Map.bounded c.args.self.now.map.now) in
     let small : c.args.d + 1 < 4294967295 = omega arith in
     let state : c.loop-s.s < size = omega arith in
     let room : size ≤ length c.loop-s.work = omega arith in

@@ -1,7 +1,0 @@
-use Rattle.map.specs.Meaning.{structure}
-use Rattle.lengths.specs.Rounds.{Begun}
-use Rattle.lengths.specs.Sheets.{by_sheet}
-use Rattle.lengths.proofs.rounds.first_round.Given as goal
-
-abbrev pub invariant-loop-s : goal.invariant-loop-s
-invariant-loop-s g l = Begun (structure g.M.L.Look.sign (g.M.Map.meaning l.map)) (by_sheet l.sheet l.a) (by_sheet l.sheet l.b) l.s l.initial.work l.work
