@@ -134,3 +134,7 @@ module _ (k : Structure) (st : State) (sheet sheets work run : List ℕ) where
 -- the same call under another name
 pub asked_as : {k : Structure} {st after : State} {t u : Tables} {c d : Call} {a : Answer} → d ≡ c → Gives k st t c a after u → Gives k st t d a after u
 asked_as {k} {st} {after} {t} {u} {c} {d} {a} e g = subst (λ x. Gives k st t x a after u) (sym e) g
+
+-- and the same answer
+pub told_as : {k : Structure} {st after : State} {t u : Tables} {c : Call} {a : Answer} (b : Answer) → a ≡ b → Gives k st t c b after u → Gives k st t c a after u
+told_as {k} {st} {after} {t} {u} {c} b e g = subst (λ x. Gives k st t c x after u) (sym e) g

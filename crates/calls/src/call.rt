@@ -3,7 +3,7 @@ use crate::fault::SessionFault;
 use stl::row::Row;
 
 // What a session can be asked.
-#[derive(Clone, Copy)]
+#[derive(Clone, Copy, PartialEq, Eq, Debug)]
 pub enum Call {
     // one row more
     Add(Row),
@@ -18,7 +18,7 @@ pub enum Call {
 }
 
 // What it answers.
-#[derive(Clone, Copy)]
+#[derive(Clone, Copy, PartialEq, Eq, Debug)]
 pub enum Answer {
     // the number of the new row
     Added(u32),

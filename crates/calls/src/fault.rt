@@ -1,32 +1,36 @@
 // Why a session refuses a call.
-ghost use Rattle.calls.specs.Faults.{refusal};
+ghost use Rattle.std.specs.Prelude.{◌≡◌};
+ghost use Rattle.calls.specs.Faults.{refusal, handed_on};
 
 use map::refusal::Refusal;
+use rules::fault::RuleFault;
+use thiserror::Error;
 
 // Each case is the no to one question.
-#[derive(Clone, Copy, PartialEq, Eq, Debug)]
+#[derive(Clone, Copy, PartialEq, Eq, Debug, Error)]
 pub enum SessionFault {
-    // the map has no state
+    #[error("the map has no state")]
     NoState,
-    // the sheet has fewer words than the map has states
+    #[error("the sheet has fewer words than the map has states")]
     ShortSheet,
-    // there are 64 rows already
+    #[error("there are 64 rows already")]
     TooManyRows,
-    // the row names itself or a later row
+    #[error("a row names itself or a later row")]
     NamesLaterRow,
-    // every row is marked
+    #[error("every row is marked")]
     NothingToMark,
-    // there is no such state
+    #[error("there is no such state")]
     NoSuchState,
-    // the row is not marked
+    #[error("the row is not marked")]
     NotMarked,
-    // the row is no until
+    #[error("the row is no until")]
     NotUntil,
-    // the work table has fewer entries than the map has states
+    #[error("the work table has fewer entries than the map has states")]
     ShortWork,
-    // there is no run
+    #[error("there is no run")]
     NoRun,
-    // the run table has no room for a run of this length
+    // for a run of this length
+    #[error("the run table has too few entries")]
     ShortRun(u32),
 }
 
@@ -53,6 +57,18 @@ impl Refusal for SessionFault {
         match self {
             SessionFault::ShortRun(n) => Some(n),
             _ => None,
+        }
+    }
+}
+
+// A refusal of the rule list is handed on.
+impl From<RuleFault> for SessionFault {
+    ghost from_gives = { λ fault e. e ≡ handed_on fault };
+
+    fn from(fault: RuleFault) -> SessionFault {
+        match fault {
+            RuleFault::TooManyRows => SessionFault::TooManyRows,
+            RuleFault::NamesLaterRow => SessionFault::NamesLaterRow,
         }
     }
 }

@@ -2,13 +2,14 @@
 ghost use Rattle.joint.specs.Faults.{refusal};
 
 use map::refusal::Refusal;
+use thiserror::Error;
 
 // Each case is the no to one question. Neither carries a value.
-#[derive(Clone, Copy, PartialEq, Eq, Debug)]
+#[derive(Clone, Copy, PartialEq, Eq, Debug, Error)]
 pub enum JointFault {
-    // there would be more than 4,096 states
+    #[error("the joint would have more than 4096 states")]
     TooManyStates,
-    // a list could have more than 32,768 entries
+    #[error("the longest list of the joint might have more than 32768 entries")]
     ListsTooLong,
 }
 

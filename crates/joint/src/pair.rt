@@ -5,6 +5,7 @@ ghost use Rattle.map.specs.Questions.{first_no};
 
 use crate::fault::JointFault;
 use map::Map;
+use map::made::Made;
 use map::read::longest_list;
 
 // The joint map of two maps. Two that make none are kept too: such a map has size 0, and tells its fault.
@@ -40,11 +41,14 @@ impl<A: Map, B: Map> JointMap<A, B> {
         let fault = pair_fault(&left, &right);
         JointMap { left, right, fault }
     }
+}
 
-    // Why the two make no joint map, if they make none.
-    pub fn fault(&self) -> Option<JointFault>
-        ensures { result ≡ self.now.fault }
-    {
+impl<A, B> Made for JointMap<A, B> {
+    type Fault = JointFault;
+
+    ghost why = { λ m. m.fault };
+
+    fn fault(&self) -> Option<JointFault> {
         self.fault
     }
 }

@@ -2,17 +2,20 @@
 ghost use Rattle.listed.specs.Faults.{refusal};
 
 use map::refusal::Refusal;
+use thiserror::Error;
 
 // Each case is the no to one question; an entry is counted from 0 in its table.
-#[derive(Clone, Copy, PartialEq, Eq, Debug)]
+#[derive(Clone, Copy, PartialEq, Eq, Debug, Error)]
 pub enum ListedFault {
-    // there are more than 4,096 looks
+    #[error("there are more than 4096 looks")]
     TooManyLooks,
-    // there is not one start byte for each look, or not one first more
+    #[error("there must be one start byte for each look, and one first more")]
     WrongLengths,
-    // this entry of the firsts is not 0 at the front, falls, or does not end at the targets' number
+    // at this entry
+    #[error("firsts begin at 0, never fall, and end at the number of targets")]
     WrongFirst(u32),
-    // this entry of the targets is no state
+    // this entry
+    #[error("a target is no state of the map")]
     WrongTarget(u32),
 }
 

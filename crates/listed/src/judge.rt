@@ -5,6 +5,7 @@ ghost use Rattle.map.specs.Counts.{lowest_no};
 ghost use Rattle.map.specs.Questions.{first_no};
 
 use crate::fault::ListedFault;
+use map::read::lowest_no;
 
 // Whether entry i of the firsts is as it should be, where there are `count` targets.
 fn first_is_right(firsts: &[u32], count: usize, i: usize) -> bool
@@ -26,12 +27,7 @@ fn wrong_first(firsts: &[u32], count: usize) -> Option<u32>
     requires { length firsts.now ≤ 4097 }
     ensures { result ≡ lowest_no (right_first firsts.now count) (length firsts.now) }
 {
-    for i in 0..firsts.len() {
-        if !first_is_right(firsts, count, i) {
-            return Some(i as u32);
-        }
-    }
-    None
+    lowest_no(firsts.len() as u32, |i| first_is_right(firsts, count, i as usize))
 }
 
 // The lowest entry of the targets that is none of `size` states.
@@ -39,12 +35,7 @@ fn wrong_target(targets: &[u32], size: usize) -> Option<u32>
     requires { length targets.now ≤ 32768 }
     ensures { result ≡ lowest_no (right_target targets.now size) (length targets.now) }
 {
-    for (k, target) in targets.iter().enumerate() {
-        if *target as usize >= size {
-            return Some(k as u32);
-        }
-    }
-    None
+    lowest_no(targets.len() as u32, |k| (targets[k as usize] as usize) < size)
 }
 
 // What is wrong with the tables, if anything.

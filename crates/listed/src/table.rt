@@ -5,6 +5,7 @@ ghost use Rattle.map.specs.Questions.{first_no};
 
 use crate::fault::ListedFault;
 use crate::judge::table_fault;
+use map::made::Made;
 
 // A map over lent tables. Tables that make no map are kept too: such a map has size 0, and tells its fault.
 #[derive(Drop)]
@@ -36,11 +37,14 @@ impl<'a, L> ListedMap<'a, L> {
             fault,
         }
     }
+}
 
-    // Why the tables make no map, if they make none.
-    pub fn fault(&self) -> Option<ListedFault>
-        ensures { result ≡ self.now.fault }
-    {
+impl<'a, L> Made for ListedMap<'a, L> {
+    type Fault = ListedFault;
+
+    ghost why = { λ m. m.fault };
+
+    fn fault(&self) -> Option<ListedFault> {
         self.fault
     }
 }

@@ -1,5 +1,6 @@
 -- The lowest no and the greatest value. Assumes nothing.
 use Rattle.std.proofs.Common.{◌≡◌, ℕ, zero, suc, ◌+◌, ◌<◌, ◌≤◌, max, Bool, true, false, cond, Some, None, Option, sym, refl, ap, ◌∙◌, subst, ⊎_elim, add-one, arith}
+use Rattle.std.specs.Prelude.{MatchOption}
 use Rattle.std.proofs.lemmas.Bool.{cases_Bool, cases_lt, cases_eq, cond-true, cond-false}
 use Rattle.map.specs.Counts.{or_else, lowest_no, greatest, CountLaws}
 
@@ -51,6 +52,11 @@ module _ (f : ℕ → Bool) where
   pub is_no : (n i : ℕ) → lowest_no f n ≡ Some i → Lowest n i
   is_no zero i e = never_none i (sym e)
   is_no (suc n) i e = found n i (lowest_no f n) refl (λ k. is_no n k) e
+
+  -- what is the lowest number with a no, said in any way, is the lowest no
+  pub lowest_as : {Yes No : ℕ → Type 0} (n : ℕ) (o : Option ℕ) → MatchOption o ((i : ℕ) → i < n → Yes i) (λ i. (i < n) × No i × ((j : ℕ) → j < i → Yes j)) → ((i : ℕ) → i < n → Yes i → f i ≡ true) → ((i : ℕ) → i < n → No i → f i ≡ false) → o ≡ lowest_no f n
+  lowest_as n None m right wrong = sym (none_no n (λ i h. right i h (m i h)))
+  lowest_as n (Some i) m right wrong = sym (no_is n i m.0 (wrong i m.0 m.1) (λ j h. right j (omega (arith, m.0)) (m.2 j h)))
 
 module _ (f : ℕ → ℕ) where
   pub above : (n i : ℕ) → i < n → f i ≤ greatest f n

@@ -8,6 +8,7 @@ ghost use Rattle.std.specs.List.{slice_get};
 
 use look::Look;
 
+pub mod made;
 pub mod read;
 pub mod refusal;
 

@@ -2,12 +2,13 @@
 ghost use Rattle.rules.specs.Faults.{refusal};
 
 use map::refusal::Refusal;
+use thiserror::Error;
 
-#[derive(Clone, Copy, PartialEq, Eq, Debug)]
+#[derive(Clone, Copy, PartialEq, Eq, Debug, Error)]
 pub enum RuleFault {
-    // there are 64 rows already
+    #[error("there are 64 rows already")]
     TooManyRows,
-    // the row names itself or a later row
+    #[error("a row names itself or a later row")]
     NamesLaterRow,
 }
 

@@ -1,12 +1,11 @@
 -- A session and its calls, as the promises of calls speak of them. Assumes nothing.
-use Rattle.std.specs.Prelude.{◌≡◌, ℕ, ◌<◌, List, take, Ok, Err, Result}
+use Rattle.std.specs.Prelude.{ℕ, ◌<◌, List, take, Ok, Err, Result}
 use Rattle.calls.specs.Answers.{State}
 use Rattle.calls.specs.declared.call.Answer.{Answer}
 use Rattle.calls.specs.declared.call.Answer.TheVariants as answer
 use Rattle.calls.specs.declared.fault.SessionFault.{SessionFault}
 use Rattle.rules.specs.declared.list.RuleList.{RuleList}
 use Rattle.stl.specs.declared.row.Row.{Row}
-use Rattle.stl.specs.declared.row.Row.TheVariants.{Until}
 use Rattle.session.specs.declared.held.Session.{Session}
 use Rattle.session.specs.declared.rows.Marked.{Marked}
 
@@ -35,9 +34,3 @@ marking m = answer.Marked m.row m.reach
 abbrev pub ReachBelow : ℕ → Result Marked SessionFault → Type 0
 ReachBelow n (Ok m) = 0 < n → m.reach < n
 ReachBelow n (Err e) = Unit {0}
-
--- the row is an until of rows a and b, both below 64
-pub record Operands (row : Row) (a b : ℕ) : Type 0 where
-  pub is : row ≡ Until a b
-  pub left : a < 64
-  pub right : b < 64

@@ -1,12 +1,11 @@
 // Asking after labels.
-ghost use Rattle.std.specs.Prelude.{◌≡◌, ℕ, ◌<◌, ◌≤◌, true, length};
+ghost use Rattle.std.specs.Prelude.{◌≡◌, ℕ, true, Decides};
 ghost use Rattle.calls.specs.Effects.{alone, Gives};
 ghost use Rattle.calls.specs.declared.call.Answer.TheVariants as answer;
 ghost use Rattle.calls.specs.declared.call.Call.TheVariants as call;
 ghost use Rattle.lengths.specs.Sheets.{by_sheet};
 ghost use Rattle.map.specs.Meaning.{structure};
 ghost use Rattle.session.specs.Sessions.{state, answered};
-ghost use Rattle.stl.specs.Iff.{◌⇔◌};
 
 use crate::held::Session;
 use calls::fault::SessionFault;
@@ -16,9 +15,7 @@ use map::Map;
 
 // Whether every start has the label of row r.
 fn all_starts<M: Map>(map: &M, sheet: &[u64], r: u32) -> bool
-    requires row { r < 64 }
-    requires words { (M.meaning map.now).size ≤ length sheet.now }
-    ensures { (result ≡ true) ⇔ ((s : ℕ) → (M.meaning map.now).start s ≡ true → by_sheet sheet.now r s) }
+    ensures { Decides result ((s : ℕ) → (M.meaning map.now).start s ≡ true → by_sheet sheet.now r s) }
 {
     for s in 0..map.size() {
         if map.is_start(s) && !labelled(sheet, r, s) {

@@ -16,9 +16,7 @@ fn clear<M: Map>(map: &M, sheet: &mut [u64])
     requires { (M.meaning map.now).size ≤ length sheet.old }
     ensures { Cleared (M.meaning map.now).size sheet.old sheet.new }
 {
-    for s in 0..map.size() {
-        sheet[s as usize] = 0;
-    }
+    sheet[..map.size() as usize].fill(0);
 }
 
 impl Session {

@@ -22,26 +22,26 @@ impl Session {
         ensures { Gives (structure M.L.Look.sign (M.meaning map.now)) (state self.old) (tables sheet.old work.old run.old) asked result (state self.new) (tables sheet.new work.new run.new) }
     {
         match asked {
-            Call::Add(row) => match self.add(map, sheet, row) {
-                Ok(r) => Answer::Added(r),
-                Err(fault) => Answer::Refused(fault),
-            },
-            Call::Mark => match self.mark(map, sheet) {
-                Ok(done) => Answer::Marked(done.row, done.reach),
-                Err(fault) => Answer::Refused(fault),
-            },
-            Call::Label(s, r) => match self.label(map, sheet, s, r) {
-                Ok(on) => Answer::Label(on),
-                Err(fault) => Answer::Refused(fault),
-            },
-            Call::Verdict(r) => match self.verdict(map, sheet, r) {
-                Ok(holds) => Answer::Verdict(holds),
-                Err(fault) => Answer::Refused(fault),
-            },
-            Call::Witness(s, r) => match self.witness(map, sheet, s, r, work, run) {
-                Ok(moves) => Answer::Witness(moves),
-                Err(fault) => Answer::Refused(fault),
-            },
+            Call::Add(row) => {
+                let outcome = self.add(map, sheet, row);
+                outcome.map_or_else(Answer::Refused, Answer::Added)
+            }
+            Call::Mark => {
+                let outcome = self.mark(map, sheet);
+                outcome.map_or_else(Answer::Refused, |m| Answer::Marked(m.row, m.reach))
+            }
+            Call::Label(s, r) => {
+                let outcome = self.label(map, sheet, s, r);
+                outcome.map_or_else(Answer::Refused, Answer::Label)
+            }
+            Call::Verdict(r) => {
+                let outcome = self.verdict(map, sheet, r);
+                outcome.map_or_else(Answer::Refused, Answer::Verdict)
+            }
+            Call::Witness(s, r) => {
+                let outcome = self.witness(map, sheet, s, r, work, run);
+                outcome.map_or_else(Answer::Refused, Answer::Witness)
+            }
         }
     }
 

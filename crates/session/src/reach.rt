@@ -6,7 +6,7 @@ ghost use Rattle.session.specs.Sessions.{rows_of, state};
 
 use crate::held::Session;
 use calls::fault::SessionFault;
-use lengths::rounds::{NONE, lengths};
+use lengths::rounds::{NONE, Until};
 use look::Look;
 use map::Map;
 use rules::list::RuleList;
@@ -40,6 +40,6 @@ impl Session {
             return Ok(0);
         };
         let mut work = [NONE; 4096];
-        Ok(lengths(map, sheet, a, b, &mut work))
+        Ok(Until { map, sheet, a, b }.lengths(&mut work))
     }
 }

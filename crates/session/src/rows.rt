@@ -11,7 +11,6 @@ use calls::fault::SessionFault;
 use look::Look;
 use map::Map;
 use marking::rows::mark_row;
-use rules::fault::RuleFault;
 use stl::row::Row;
 
 // The row that was marked, and its reach.
@@ -30,17 +29,12 @@ impl Session {
             return Err(SessionFault::ShortSheet);
         }
         let mut rules = self.rules;
-        match rules.add(row) {
-            Ok(r) => {
-                *self = Session {
-                    rules,
-                    marked: self.marked,
-                };
-                Ok(r)
-            }
-            Err(RuleFault::TooManyRows) => Err(SessionFault::TooManyRows),
-            Err(RuleFault::NamesLaterRow) => Err(SessionFault::NamesLaterRow),
-        }
+        let r = rules.add(row)?;
+        *self = Session {
+            rules,
+            marked: self.marked,
+        };
+        Ok(r)
     }
 
     // Gives the next row its labels, and answers the row and its reach.

@@ -6,36 +6,31 @@ ghost use Rattle.calls.specs.declared.call.Answer.TheVariants as answer;
 ghost use Rattle.calls.specs.declared.call.Call.TheVariants as call;
 ghost use Rattle.lengths.specs.Sheets.{by_sheet};
 ghost use Rattle.map.specs.Meaning.{structure};
-ghost use Rattle.session.specs.Sessions.{rows_of, state, answered, Operands};
+ghost use Rattle.session.specs.Sessions.{rows_of, state, answered};
 ghost use Rattle.stl.specs.Rows.{is_until, row_at};
+ghost use Rattle.stl.specs.declared.row.Row.TheVariants as row;
 
 use crate::held::Session;
 use calls::fault::SessionFault;
-use lengths::rounds::{NONE, lengths};
+use lengths::rounds::{NONE, Until};
 use lengths::runs::write_run;
 use look::Look;
 use map::Map;
 use stl::row::Row;
 
-// Fills the work table for `a until b`, and writes a shortest run from s if there is one and there is room for it.
+// Fills the work table for the until, and writes a shortest run from s if there is one and there is room for it.
 fn show_run<M: Map>(
-    map: &M,
-    sheet: &[u64],
+    until: &Until<'_, M>,
     s: u32,
-    a: u32,
-    b: u32,
     work: &mut [u32],
     run: &mut [u32],
 ) -> Result<u32, SessionFault>
-    requires state { s < (M.meaning map.now).size }
-    requires left { a < 64 }
-    requires right { b < 64 }
-    requires words { (M.meaning map.now).size ≤ length sheet.now }
-    requires entries { (M.meaning map.now).size ≤ length work.old }
-    ensures found { Found (structure M.L.Look.sign (M.meaning map.now)) (by_sheet sheet.now a) (by_sheet sheet.now b) s (length run.old) (answered answer.Witness result) }
-    ensures sought { Sought (structure M.L.Look.sign (M.meaning map.now)) (by_sheet sheet.now a) (by_sheet sheet.now b) s (tables sheet.now work.old run.old) (tables sheet.now work.new run.new) (answered answer.Witness result) }
+    requires state { s < (M.meaning until.now.map.now).size }
+    requires entries { (M.meaning until.now.map.now).size ≤ length work.old }
+    ensures found { Found (structure M.L.Look.sign (M.meaning until.now.map.now)) (by_sheet until.now.sheet.now until.now.a) (by_sheet until.now.sheet.now until.now.b) s (length run.old) (answered answer.Witness result) }
+    ensures sought { Sought (structure M.L.Look.sign (M.meaning until.now.map.now)) (by_sheet until.now.sheet.now until.now.a) (by_sheet until.now.sheet.now until.now.b) s (tables until.now.sheet.now work.old run.old) (tables until.now.sheet.now work.new run.new) (answered answer.Witness result) }
 {
-    lengths(map, sheet, a, b, work);
+    until.lengths(work);
     let length = work[s as usize];
     if length == NONE {
         return Err(SessionFault::NoRun);
@@ -43,7 +38,7 @@ fn show_run<M: Map>(
     if run.len() <= length as usize {
         return Err(SessionFault::ShortRun(length));
     }
-    write_run(map, s, work, run);
+    write_run(until.map, s, work, run);
     Ok(length)
 }
 
@@ -51,14 +46,11 @@ impl Session {
     // The operands of the marked row r, where it is an until.
     pub(crate) fn operands(&self, r: u32) -> Option<(u32, u32)>
         requires { r < self.now.marked }
-        ensures { MatchOption result (is_until (row_at (rows_of self.now.rules) r) ≡ false) (λ p. Operands (row_at (rows_of self.now.rules) r) p.0 p.1) }
+        ensures { MatchOption result (is_until (row_at (rows_of self.now.rules) r) ≡ false) (λ p. row_at (rows_of self.now.rules) r ≡ row.Until p.0 p.1) }
     {
-        match self.rules.row(r) {
-            Some(row) => match row {
-                Row::Until(a, b) => Some((a, b)),
-                _ => None,
-            },
-            None => None,
+        match self.rules.row(r)? {
+            Row::Until(a, b) => Some((a, b)),
+            _ => None,
         }
     }
 
@@ -91,6 +83,6 @@ impl Session {
         if work.len() < n as usize {
             return Err(SessionFault::ShortWork);
         }
-        show_run(map, sheet, s, a, b, work, run)
+        show_run(&Until { map, sheet, a, b }, s, work, run)
     }
 }

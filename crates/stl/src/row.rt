@@ -1,7 +1,7 @@
 // Rows of a rule list.
 
 // One row; a and b are the numbers of other rows.
-#[derive(Clone, Copy)]
+#[derive(Clone, Copy, PartialEq, Eq, Debug)]
 pub enum Row {
     // holds everywhere
     True,

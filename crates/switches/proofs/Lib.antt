@@ -1,4 +1,3 @@
 mod Words
 mod Meets
-mod Steps
 mod Looks

@@ -1,5 +1,6 @@
 -- A panel of switches with commands: when they make a map, and which map they make. Assumes nothing.
-use Rattle.std.specs.Prelude.{ℕ, ◌^◌, Bool, true, false, cond, ◌&&◌, List, [], ◌∷◌, length, Some, None, Option, nat_le, nat_lt}
+use Rattle.std.specs.Prelude.{ℕ, ◌^◌, Bool, false, cond, ◌&&◌, List, [], ◌∷◌, length, Some, None, Option, nat_le, nat_lt}
+use Rattle.std.specs.List.{list_all}
 use Rattle.look.specs.declared.switch.SwitchLook.{SwitchLook}
 use Rattle.map.specs.Meaning.{Meaning}
 use Rattle.map.specs.Questions.{Question, ask}
@@ -17,8 +18,7 @@ right_command n c =
     ((within n c.need_on && within n c.need_off) && (within n c.turn_on && within n c.turn_off)) && all_off c.turn_on c.turn_off
 
 abbrev pub right_commands : ℕ → List Command → Bool
-right_commands n [] = true
-right_commands n (c ∷ more) = right_command n c && right_commands n more
+right_commands n commands = list_all (right_command n) commands
 
 -- no mask of the panel has a switch from n on
 abbrev pub right_panel : Panel → Bool

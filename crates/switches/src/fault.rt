@@ -2,15 +2,16 @@
 ghost use Rattle.switches.specs.Faults.{refusal};
 
 use map::refusal::Refusal;
+use thiserror::Error;
 
 // Each case is the no to one question.
-#[derive(Clone, Copy, PartialEq, Eq, Debug)]
+#[derive(Clone, Copy, PartialEq, Eq, Debug, Error)]
 pub enum SwitchFault {
-    // there are not 1 to 12 switches
+    #[error("there must be 1 to 12 switches")]
     WrongSwitchCount,
-    // there are more than 32 commands
+    #[error("there are more than 32 commands")]
     TooManyCommands,
-    // a mask has a switch that is not there, or a command turns one switch both on and off
+    #[error("a mask names no switch, or a command turns one both on and off")]
     WrongMask,
 }
 

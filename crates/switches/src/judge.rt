@@ -31,12 +31,7 @@ fn commands_are_right(n: u32, commands: &[Command]) -> bool
     requires { n ≤ 12 }
     ensures { result ≡ right_commands n commands.now }
 {
-    for c in commands {
-        if !command_is_right(n, *c) {
-            return false;
-        }
-    }
-    true
+    commands.iter().all(|c| command_is_right(n, *c))
 }
 
 // Whether the masks of the panel are as required.

@@ -7,6 +7,7 @@ use crate::command::Command;
 use crate::fault::SwitchFault;
 use crate::judge::switch_fault;
 use crate::panel::Panel;
+use map::made::Made;
 
 // What makes no map is not kept: such a map has no switches and no commands, has size 0, and tells its fault.
 #[derive(Drop)]
@@ -50,11 +51,14 @@ impl<'a> SwitchMap<'a> {
             }
         }
     }
+}
 
-    // Why the panel and the commands make no map, if they make none.
-    pub fn fault(&self) -> Option<SwitchFault>
-        ensures { result ≡ self.now.fault }
-    {
+impl<'a> Made for SwitchMap<'a> {
+    type Fault = SwitchFault;
+
+    ghost why = { λ m. m.fault };
+
+    fn fault(&self) -> Option<SwitchFault> {
         self.fault
     }
 }

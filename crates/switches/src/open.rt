@@ -10,27 +10,13 @@ pub(crate) fn count_open(commands: &[Command], s: u32) -> u32
     requires { length commands.now ≤ 32 }
     ensures { result ≡ length (targets_of commands.now s) }
 {
-    let mut count = 0;
-    for c in commands {
-        if c.is_open(s) {
-            count += 1;
-        }
-    }
-    count
+    commands.iter().filter(|c| c.is_open(s)).count() as u32
 }
 
 // The target of the open command at place k among those that are open at s.
 pub(crate) fn open_target(commands: &[Command], s: u32, k: u32) -> Option<u32>
     ensures { result ≡ slice_get (targets_of commands.now s) k }
 {
-    let mut left = k;
-    for c in commands {
-        if c.is_open(s) {
-            if left == 0 {
-                return Some(c.target(s));
-            }
-            left -= 1;
-        }
-    }
-    None
+    let open = commands.iter().filter(|c| c.is_open(s));
+    open.map(|c| c.target(s)).nth(k as usize)
 }

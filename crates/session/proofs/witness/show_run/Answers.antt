@@ -7,7 +7,7 @@ use Rattle.session.proofs.witness.show_run.Goals as goal
 
 pub returns-then-length : goal.returns-then-length
 returns-then-length g c =
-    let fits = g.M.Map.bounded c.args.map.now in
+    let fits = g.M.Map.bounded c.args.until.now.map.now in
     let filled = c.lengths-length.ensures.filled in
     record {
       found = none (entry_none (well_formed g.M.L.Look.sign _ fits) fits.size_fits c.requires.state (filled.here c.args.s c.requires.state) c.if-length.true);
@@ -24,7 +24,7 @@ returns-then-run-length g c =
 
 pub write_run-requires : goal.write_run-requires
 write_run-requires g c =
-    let fits = g.M.Map.bounded c.args.map.now in
+    let fits = g.M.Map.bounded c.args.until.now.map.now in
     let formed = well_formed g.M.L.Look.sign _ fits in
     let filled = c.lengths-length.ensures.filled in
     record {
@@ -37,7 +37,7 @@ write_run-requires g c =
 
 pub returns : goal.returns
 returns g c =
-    let fits = g.M.Map.bounded c.args.map.now in
+    let fits = g.M.Map.bounded c.args.until.now.map.now in
     let formed = well_formed g.M.L.Look.sign _ fits in
     let filled = c.lengths-length.ensures.filled in
     let l = entry_length (filled.here c.args.s c.requires.state) c.if-length.false in

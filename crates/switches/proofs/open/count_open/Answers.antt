@@ -1,18 +1,11 @@
-use Rattle.std.proofs.Common.{length, sym, ap, arith}
-use Rattle.switches.proofs.Steps.{open_step, shut_step, no_more}
+use Rattle.std.proofs.Common.{rules, tests, sym, ◌∙◌}
+use Rattle.std.proofs.lemmas.List.{length-map}
+use Rattle.std.proofs.lemmas.Iterator.{YieldsList-from_slice}
+use Rattle.std.proofs.lemmas.Iterator.Consumers.{count_from_yields_List, YieldsList-from_filter}
+use Rattle.switches.specs.Commands.{is_open}
 use Rattle.switches.proofs.open.count_open.Goals as goal
-use Rattle.switches.proofs.open.count_open.Goals.{then-is_open, else-is_open}
-
-pub loop-c-preserved : goal.loop-c-preserved
-loop-c-preserved c =
-    elim c.if-is_open.branch [
-      | then-is_open w ↦
-          let step = ap length (open_step c.args.commands.now c.args.s c.loop-c.c-index _ c.loop-c-test.true (sym w.if-is_open.ensures)) in
-          (omega (arith, w.count-is, c.loop-c.invariant.0), omega (arith, w.count-is, step, c.loop-c.invariant.1))
-      | else-is_open w ↦
-          let step = ap length (shut_step c.args.commands.now c.args.s c.loop-c.c-index _ c.loop-c-test.true (sym w.if-is_open.ensures)) in
-          (omega (arith, w.count-is, c.loop-c.invariant.0), omega (arith, w.count-is, step, c.loop-c.invariant.1))
-    ]
 
 pub returns : goal.returns
-returns c = omega (arith, c.loop-c.invariant.1, ap length (no_more c.args.commands.now c.args.s c.loop-c.c-index c.loop-c-test.false))
+returns c =
+    count_from_yields_List _ c.count.result c.count.ensures.ran (YieldsList-from_filter _ (λ x. is_open x c.args.s) (YieldsList-from_slice c.args.commands.now cc) c.filter.ensures.closure (λ x b q k. search (rules, tests)))
+    ∙ sym (length-map _ _)

@@ -17,4 +17,4 @@ returns g c =
     let m = g.M.Map.meaning c.args.map.now in
     let formed = well_formed g.M.L.Look.sign m (g.M.Map.bounded c.args.map.now) in
     reach_given (state c.args.self.now) c.args.sheet.now c.args.r c.lengths.result formed (omega arith) (omega arith)
-    (subst (λ row. Reach (structure g.M.L.Look.sign m) (by_sheet c.args.sheet.now) row c.lengths.result) (sym c.in-Some.ensures.is) c.lengths.ensures.greatest)
+    (subst (λ row. Reach (structure g.M.L.Look.sign m) (by_sheet c.args.sheet.now) row c.lengths.result) (sym c.in-Some.ensures) c.lengths.ensures.greatest)
