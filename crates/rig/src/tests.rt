@@ -3,4 +3,5 @@ mod bounds;
 mod joints;
 mod looks;
 mod switches_model;
+mod told;
 mod walks;

@@ -1,10 +1,12 @@
 // Joint maps of every kind of map, against pairs that are worked out one by one.
+use crate::tests::told::{Told, told_of};
 use crate::{Rig, worked_example};
 use joint::pair::JointMap;
 use listed::table::ListedMap;
 use look::Look;
 use look::switch::SwitchLook;
 use map::Map;
+use map::made::Made;
 use map::read::sign_at;
 use std::alloc::{AllocError, Global};
 use std::process::Abort;
@@ -146,7 +148,7 @@ fn refused() -> SwitchMap<'static> {
 fn joints_with_an_empty_map(rt: HostRuntime) {
     let rig = worked_example();
     assert!(rt; empty().fault().is_none());
-    assert_eq!(rt; told(four(&rig), empty()), (0, 0));
+    assert_eq!(rt; told_of(&JointMap::new(four(&rig), empty())), (0, None));
     answers_as_paired(
         &rt,
         &four(&rig),
@@ -159,7 +161,7 @@ fn joints_with_an_empty_map(rt: HostRuntime) {
 fn joints_with_a_refused_map(rt: HostRuntime) {
     let rig = worked_example();
     assert!(rt; refused().fault().is_some());
-    assert_eq!(rt; told(refused(), four(&rig)), (0, 0));
+    assert_eq!(rt; told_of(&JointMap::new(refused(), four(&rig))), (0, None));
     answers_as_paired(
         &rt,
         &refused(),
@@ -168,17 +170,8 @@ fn joints_with_a_refused_map(rt: HostRuntime) {
     );
 }
 
-// The number of a joint's refusal, 0 where there is none, and its size.
-fn told<A: Map + Drop, B: Map + Drop>(left: A, right: B) -> (u8, u32) {
-    let both = JointMap::new(left, right);
-    match both.fault() {
-        None => (0, both.size()),
-        Some(fault) => (fault.number(), both.size()),
-    }
-}
-
 // What the joint of two maps without moves tells, of so many states each, up to 65.
-fn told_of_sizes(left: usize, right: usize) -> (u8, u32) {
+fn told_of_sizes(left: usize, right: usize) -> Told {
     let looks = [SwitchLook { marks: 0 }; 65];
     let starts = [1; 65];
     let firsts = [0; 66];
@@ -186,20 +179,20 @@ fn told_of_sizes(left: usize, right: usize) -> (u8, u32) {
     let b = right.min(65);
     let one = ListedMap::new(&looks[0..a], &starts[0..a], &firsts[0..a + 1], &[]);
     let other = ListedMap::new(&looks[0..b], &starts[0..b], &firsts[0..b + 1], &[]);
-    told(one, other)
+    told_of(&JointMap::new(one, other))
 }
 
 #[test]
 fn sizes_at_the_bound(rt: HostRuntime) {
-    assert_eq!(rt; told_of_sizes(64, 64), (0, 4096));
-    assert_eq!(rt; told_of_sizes(63, 65), (0, 4095));
-    assert_eq!(rt; told_of_sizes(64, 65), (8, 0));
-    assert_eq!(rt; told_of_sizes(65, 64), (8, 0));
-    assert_eq!(rt; told_of_sizes(65, 65), (8, 0));
+    assert_eq!(rt; told_of_sizes(64, 64), (4096, None));
+    assert_eq!(rt; told_of_sizes(63, 65), (4095, None));
+    assert_eq!(rt; told_of_sizes(64, 65), (0, Some((8, None))));
+    assert_eq!(rt; told_of_sizes(65, 64), (0, Some((8, None))));
+    assert_eq!(rt; told_of_sizes(65, 65), (0, Some((8, None))));
 }
 
 // One state that moves to itself so many times.
-fn told_of_lists(heap: Global, left: usize, right: usize) -> Result<(u8, u32), AllocError> {
+fn told_of_lists(heap: Global, left: usize, right: usize) -> Result<Told, AllocError> {
     let looks = [SwitchLook { marks: 0 }];
     let ones = vec![in heap; 0u32; left]?;
     let others = vec![in heap; 0u32; right]?;
@@ -207,18 +200,18 @@ fn told_of_lists(heap: Global, left: usize, right: usize) -> Result<(u8, u32), A
     let other_firsts = [0, (others.len() & 0xffff) as u32];
     let one = ListedMap::new(&looks, &[1], &one_firsts, &ones);
     let other = ListedMap::new(&looks, &[1], &other_firsts, &others);
-    Ok(told(one, other))
+    Ok(told_of(&JointMap::new(one, other)))
 }
 
 #[test]
 fn lists_at_the_bound(rt: HostRuntime) -> Result<(), Fail> {
     let heap = rt.alloc();
-    assert_eq!(rt; told_of_lists(heap, 128, 256)?, (0, 1));
-    assert_eq!(rt; told_of_lists(heap, 32768, 1)?, (0, 1));
-    assert_eq!(rt; told_of_lists(heap, 32768, 0)?, (0, 1));
-    assert_eq!(rt; told_of_lists(heap, 32767, 2)?, (9, 0));
-    assert_eq!(rt; told_of_lists(heap, 11, 2979)?, (9, 0));
-    assert_eq!(rt; told_of_lists(heap, 2, 16385)?, (9, 0));
-    assert_eq!(rt; told_of_lists(heap, 32768, 32768)?, (9, 0));
+    assert_eq!(rt; told_of_lists(heap, 128, 256)?, (1, None));
+    assert_eq!(rt; told_of_lists(heap, 32768, 1)?, (1, None));
+    assert_eq!(rt; told_of_lists(heap, 32768, 0)?, (1, None));
+    assert_eq!(rt; told_of_lists(heap, 32767, 2)?, (0, Some((9, None))));
+    assert_eq!(rt; told_of_lists(heap, 11, 2979)?, (0, Some((9, None))));
+    assert_eq!(rt; told_of_lists(heap, 2, 16385)?, (0, Some((9, None))));
+    assert_eq!(rt; told_of_lists(heap, 32768, 32768)?, (0, Some((9, None))));
     Ok(())
 }

@@ -1,5 +1,8 @@
 // Switch maps, against a model that takes masks apart bit by bit.
+use crate::tests::told::{Told, told_of};
 use map::Map;
+use map::made::Made;
+use std::array;
 use std::process::Abort;
 use std::test::Fail;
 use switches::command::Command;
@@ -47,11 +50,9 @@ fn turned(s: u32, on: u32, off: u32) -> u32 {
 // The list of s is the targets of the commands that fit, in their order.
 fn lists_as_written(rt: &impl Abort, map: &SwitchMap<'_>, commands: &[Command], s: u32) {
     let mut count: u32 = 0;
-    for c in commands {
-        if fits(s, c.need_on, c.need_off) {
-            assert_eq!(rt; map.entry(s, count), Some(turned(s, c.turn_on, c.turn_off)));
-            count = count.saturating_add(1);
-        }
+    for c in commands.iter().filter(|c| fits(s, c.need_on, c.need_off)) {
+        assert_eq!(rt; map.entry(s, count), Some(turned(s, c.turn_on, c.turn_off)));
+        count = count.saturating_add(1);
     }
     assert_eq!(rt; map.list_len(s), count);
     assert_eq!(rt; map.entry(s, count), None);
@@ -82,18 +83,17 @@ fn answers_as_written(
 
 // A command for each number below 32, over 12 switches.
 fn thirty_two() -> [Command; 32] {
-    let mut commands = [IDLE; 32];
-    for i in 0..32 {
+    array::from_fn(|i| {
+        let i = i as u32;
         let turn_on = (i * 73 + 5) % 4096;
         let turn_off = (i * 977 + 11) % 4096;
-        commands[i as usize] = Command {
+        Command {
             need_on: (i * 64) % 4096,
             need_off: i % 8,
             turn_on,
             turn_off: turn_off ^ (turn_off & turn_on),
-        };
-    }
-    commands
+        }
+    })
 }
 
 #[test]
@@ -153,13 +153,9 @@ fn a_command_clears_before_it_sets(rt: HostRuntime) {
     assert!(rt; !never.is_open(0) && !never.is_open(1));
 }
 
-// The number of the refusal, 0 where there is none, and the size.
-fn told(panel: Panel, commands: &[Command]) -> (u8, u32) {
-    let map = SwitchMap::new(panel, commands);
-    match map.fault() {
-        None => (0, map.size()),
-        Some(fault) => (fault.number(), map.size()),
-    }
+// What the map of a panel and commands tells.
+fn told(panel: Panel, commands: &[Command]) -> Told {
+    told_of(&SwitchMap::new(panel, commands))
 }
 
 // A panel and a command, by their parts.
@@ -183,28 +179,28 @@ fn command(need_on: u32, need_off: u32, turn_on: u32, turn_off: u32) -> Command 
 
 #[test]
 fn switch_counts_and_command_counts(rt: HostRuntime) {
-    assert_eq!(rt; told(panel(0, 0, 0, 0), &[]), (5, 0));
-    assert_eq!(rt; told(panel(1, 0, 0, 0), &[]), (0, 2));
-    assert_eq!(rt; told(panel(12, 7, 0, 0), &[]), (0, 4096));
-    assert_eq!(rt; told(panel(13, 7, 0, 0), &[]), (5, 0));
-    assert_eq!(rt; told(panel(u32::MAX, 7, 0, 0), &[IDLE; 33]), (5, 0));
-    assert_eq!(rt; told(panel(3, 7, 0, 0), &[IDLE; 32]), (0, 8));
-    assert_eq!(rt; told(panel(3, 7, 0, 0), &[IDLE; 33]), (6, 0));
+    assert_eq!(rt; told(panel(0, 0, 0, 0), &[]), (0, Some((5, None))));
+    assert_eq!(rt; told(panel(1, 0, 0, 0), &[]), (2, None));
+    assert_eq!(rt; told(panel(12, 7, 0, 0), &[]), (4096, None));
+    assert_eq!(rt; told(panel(13, 7, 0, 0), &[]), (0, Some((5, None))));
+    assert_eq!(rt; told(panel(u32::MAX, 7, 0, 0), &[IDLE; 33]), (0, Some((5, None))));
+    assert_eq!(rt; told(panel(3, 7, 0, 0), &[IDLE; 32]), (8, None));
+    assert_eq!(rt; told(panel(3, 7, 0, 0), &[IDLE; 33]), (0, Some((6, None))));
     // a command that needs a switch both on and off may stand
-    assert_eq!(rt; told(panel(3, 7, 0, 0), &[command(7, 7, 0, 0)]), (0, 8));
+    assert_eq!(rt; told(panel(3, 7, 0, 0), &[command(7, 7, 0, 0)]), (8, None));
 }
 
 #[test]
 fn masks_at_fault(rt: HostRuntime) {
     let right = panel(3, 7, 7, 7);
-    assert_eq!(rt; told(right, &[IDLE]), (0, 8));
-    assert_eq!(rt; told(panel(3, 8, 7, 7), &[]), (7, 0));
-    assert_eq!(rt; told(panel(3, 7, 8, 7), &[]), (7, 0));
-    assert_eq!(rt; told(panel(3, 7, 7, 8), &[]), (7, 0));
-    assert_eq!(rt; told(right, &[IDLE, command(8, 0, 0, 0)]), (7, 0));
-    assert_eq!(rt; told(right, &[IDLE, command(0, 8, 0, 0)]), (7, 0));
-    assert_eq!(rt; told(right, &[IDLE, command(0, 0, 8, 0)]), (7, 0));
-    assert_eq!(rt; told(right, &[IDLE, command(0, 0, 0, 8)]), (7, 0));
-    assert_eq!(rt; told(right, &[IDLE, command(0, 0, 6, 2)]), (7, 0));
-    assert_eq!(rt; told(right, &[IDLE, command(0, 0, 5, 2)]), (0, 8));
+    assert_eq!(rt; told(right, &[IDLE]), (8, None));
+    assert_eq!(rt; told(panel(3, 8, 7, 7), &[]), (0, Some((7, None))));
+    assert_eq!(rt; told(panel(3, 7, 8, 7), &[]), (0, Some((7, None))));
+    assert_eq!(rt; told(panel(3, 7, 7, 8), &[]), (0, Some((7, None))));
+    assert_eq!(rt; told(right, &[IDLE, command(8, 0, 0, 0)]), (0, Some((7, None))));
+    assert_eq!(rt; told(right, &[IDLE, command(0, 8, 0, 0)]), (0, Some((7, None))));
+    assert_eq!(rt; told(right, &[IDLE, command(0, 0, 8, 0)]), (0, Some((7, None))));
+    assert_eq!(rt; told(right, &[IDLE, command(0, 0, 0, 8)]), (0, Some((7, None))));
+    assert_eq!(rt; told(right, &[IDLE, command(0, 0, 6, 2)]), (0, Some((7, None))));
+    assert_eq!(rt; told(right, &[IDLE, command(0, 0, 5, 2)]), (8, None));
 }

@@ -6,20 +6,11 @@ use look::joint::JointLook;
 use look::level::LevelLook;
 use look::switch::SwitchLook;
 use map::Map;
+use map::made::Made;
 use map::read::{longest_list, moves_to, sign_at};
 use std::process::Abort;
 
 const MOVES: [(u32, u32); 4] = [(0, 1), (1, 2), (1, 3), (2, 0)];
-
-// Whether the pair stands in the written list of moves.
-fn written(s: u32, t: u32) -> bool {
-    for (a, b) in MOVES {
-        if a == s && b == t {
-            return true;
-        }
-    }
-    false
-}
 
 // The moves and starts of the four-state map, whatever its looks.
 fn has_the_four_states<M: Map>(rt: &impl Abort, map: &M) {
@@ -28,7 +19,7 @@ fn has_the_four_states<M: Map>(rt: &impl Abort, map: &M) {
         assert_eq!(rt; map.is_start(s), s == 0);
         assert_eq!(rt; map.look_of(s).is_some(), s < 4);
         for t in 0..6 {
-            assert_eq!(rt; moves_to(map, s, t), written(s, t));
+            assert_eq!(rt; moves_to(map, s, t), MOVES.contains(&(s, t)));
         }
     }
     assert_eq!(rt; map.list_len(1), 2);
