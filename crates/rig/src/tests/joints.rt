@@ -148,7 +148,7 @@ fn refused() -> SwitchMap<'static> {
 fn joints_with_an_empty_map(rt: HostRuntime) {
     let rig = worked_example();
     assert!(rt; empty().fault().is_none());
-    assert_eq!(rt; told_of(&JointMap::new(four(&rig), empty())), (0, None));
+    assert_eq!(rt; told(four(&rig), empty()), (0, None));
     answers_as_paired(
         &rt,
         &four(&rig),
@@ -161,13 +161,18 @@ fn joints_with_an_empty_map(rt: HostRuntime) {
 fn joints_with_a_refused_map(rt: HostRuntime) {
     let rig = worked_example();
     assert!(rt; refused().fault().is_some());
-    assert_eq!(rt; told_of(&JointMap::new(refused(), four(&rig))), (0, None));
+    assert_eq!(rt; told(refused(), four(&rig)), (0, None));
     answers_as_paired(
         &rt,
         &refused(),
         &four(&rig),
         &JointMap::new(refused(), four(&rig)),
     );
+}
+
+// What the joint of two maps tells.
+fn told<A: Map + Drop, B: Map + Drop>(left: A, right: B) -> Told {
+    told_of(&JointMap::new(left, right))
 }
 
 // What the joint of two maps without moves tells, of so many states each, up to 65.
@@ -179,7 +184,7 @@ fn told_of_sizes(left: usize, right: usize) -> Told {
     let b = right.min(65);
     let one = ListedMap::new(&looks[0..a], &starts[0..a], &firsts[0..a + 1], &[]);
     let other = ListedMap::new(&looks[0..b], &starts[0..b], &firsts[0..b + 1], &[]);
-    told_of(&JointMap::new(one, other))
+    told(one, other)
 }
 
 #[test]
@@ -200,7 +205,7 @@ fn told_of_lists(heap: Global, left: usize, right: usize) -> Result<Told, AllocE
     let other_firsts = [0, (others.len() & 0xffff) as u32];
     let one = ListedMap::new(&looks, &[1], &one_firsts, &ones);
     let other = ListedMap::new(&looks, &[1], &other_firsts, &others);
-    Ok(told_of(&JointMap::new(one, other)))
+    Ok(told(one, other))
 }
 
 #[test]

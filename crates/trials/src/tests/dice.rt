@@ -1,6 +1,8 @@
 // Numbers that look thrown, and tables, commands and rows made from them.
 use listed::table::ListedMap;
 use look::switch::SwitchLook;
+use std::alloc::{AllocError, Global};
+use std::array;
 use stl::row::Row;
 use switches::command::Command;
 use switches::made::SwitchMap;
@@ -26,13 +28,12 @@ impl Dice {
 }
 
 // The tables of a listed map of at most 6 states.
-#[derive(Clone, Copy)]
+#[derive(Drop)]
 pub struct Tables {
-    size: u32,
-    looks: [SwitchLook; 6],
-    starts: [u8; 6],
-    firsts: [u32; 7],
-    targets: [u32; 18],
+    looks: Vec<SwitchLook>,
+    starts: Vec<u8>,
+    firsts: Vec<u32>,
+    targets: Vec<u32>,
 }
 
 // A start byte; it is 0 as often as not.
@@ -45,66 +46,68 @@ fn thrown_start(dice: &mut Dice) -> u8 {
     }
 }
 
-// Tables of 1 to `most` states, 6 at most, each with up to 3 targets.
-pub(crate) fn thrown_tables(dice: &mut Dice, most: u32) -> Tables {
+// Tables of 1 to `most` states, 6 at most, each with up to 3 targets. There is a throw for each of six states, whatever the size.
+pub(crate) fn thrown_tables(
+    heap: Global,
+    dice: &mut Dice,
+    most: u32,
+) -> Result<Tables, AllocError> {
     let most = most.min(6);
     let size = dice.below(most).max(dice.below(most)).saturating_add(1);
-    let mut looks = [SwitchLook { marks: 0 }; 6];
-    let mut starts = [0; 6];
-    for s in 0..6 {
-        looks[s] = SwitchLook {
-            marks: dice.below(8),
-        };
-        starts[s] = thrown_start(dice);
+    let mut looks = Vec::new(heap);
+    let mut starts = Vec::new(heap);
+    for _ in 0..6 {
+        let marks = dice.below(8);
+        looks.push(SwitchLook { marks })?;
+        starts.push(thrown_start(dice))?;
     }
-    let (firsts, targets) = lists(dice, size);
-    Tables {
-        size,
+    looks.truncate(size as usize);
+    starts.truncate(size as usize);
+    let (firsts, targets) = lists(heap, dice, size)?;
+    Ok(Tables {
         looks,
         starts,
         firsts,
         targets,
-    }
+    })
 }
 
 // Up to 3 targets for each state, or up to 2 or 1, and where the list of each begins.
-fn lists(dice: &mut Dice, size: u32) -> ([u32; 7], [u32; 18]) {
-    let mut firsts = [0; 7];
-    let mut targets = [0; 18];
-    let mut count: u32 = 0;
+fn lists(heap: Global, dice: &mut Dice, size: u32) -> Result<(Vec<u32>, Vec<u32>), AllocError> {
+    let mut firsts = vec![in heap; 0; 1]?;
+    let mut targets = Vec::new(heap);
     let bound = dice.below(3).saturating_add(2);
     for s in 0..6 {
         for _ in 0..dice.below(bound) {
-            if count < 18 {
-                targets[count as usize] = dice.below(size);
-                count += 1;
+            let target = dice.below(size);
+            if s < size {
+                targets.push(target)?;
             }
         }
-        firsts[s + 1] = count;
+        if s < size {
+            firsts.push((targets.len() & 0xffff) as u32)?;
+        }
     }
-    (firsts, targets)
+    Ok((firsts, targets))
 }
 
 impl Tables {
     // The listed map of the tables.
     pub(crate) fn map(&self) -> ListedMap<'_, SwitchLook> {
-        let n = self.size.min(6) as usize;
-        let count = self.firsts[n].min(18) as usize;
         ListedMap::new(
-            &self.looks[0..n],
-            &self.starts[0..n],
-            &self.firsts[0..n + 1],
-            &self.targets[0..count],
+            self.looks.as_slice(),
+            self.starts.as_slice(),
+            self.firsts.as_slice(),
+            self.targets.as_slice(),
         )
     }
 }
 
 // A panel and up to 4 commands.
-#[derive(Clone, Copy)]
+#[derive(Drop)]
 pub struct Board {
     panel: Panel,
-    commands: [Command; 4],
-    count: u32,
+    commands: Vec<Command>,
 }
 
 // A command over switches whose settings are the numbers below n.
@@ -120,34 +123,33 @@ fn thrown_command(dice: &mut Dice, n: u32) -> Command {
 }
 
 // A board of 1 to `most` switches.
-pub(crate) fn thrown_board(dice: &mut Dice, most: u32) -> Board {
+pub(crate) fn thrown_board(heap: Global, dice: &mut Dice, most: u32) -> Result<Board, AllocError> {
     let bits = dice.below(most).saturating_add(1);
     let n = match bits {
         1 => 2,
         2 => 4,
         _ => 8,
     };
-    let mut commands = [thrown_command(dice, n); 4];
-    for i in 0..4 {
-        commands[i] = thrown_command(dice, n);
+    // the first one thrown is left out
+    let _ = thrown_command(dice, n);
+    let mut commands = Vec::new(heap);
+    for _ in 0..4 {
+        commands.push(thrown_command(dice, n))?;
     }
-    Board {
-        panel: Panel {
-            bits,
-            visible: dice.below(n) | dice.below(n),
-            start_on: dice.below(n) & dice.below(n),
-            start_off: dice.below(n) & dice.below(n),
-        },
-        commands,
-        count: dice.below(5),
-    }
+    let panel = Panel {
+        bits,
+        visible: dice.below(n) | dice.below(n),
+        start_on: dice.below(n) & dice.below(n),
+        start_off: dice.below(n) & dice.below(n),
+    };
+    commands.truncate(dice.below(5) as usize);
+    Ok(Board { panel, commands })
 }
 
 impl Board {
     // The switch map of the board.
     pub(crate) fn map(&self) -> SwitchMap<'_> {
-        let count = self.count.min(4) as usize;
-        SwitchMap::new(self.panel, &self.commands[0..count])
+        SwitchMap::new(self.panel, self.commands.as_slice())
     }
 }
 
@@ -170,9 +172,5 @@ pub(crate) fn thrown_row(dice: &mut Dice, r: u32) -> Row {
 
 // Sixteen rows of all kinds.
 pub(crate) fn thrown_rows(dice: &mut Dice) -> [Row; 16] {
-    let mut out = [Row::True; 16];
-    for r in 0..16 {
-        out[r as usize] = thrown_row(dice, r);
-    }
-    out
+    array::from_fn(|r| thrown_row(dice, r as u32))
 }

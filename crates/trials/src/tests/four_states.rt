@@ -39,8 +39,8 @@ pub(crate) fn eight_rows<M: Map>(
     count: u32,
 ) -> Result<Session, Fail> {
     let mut session = Session::open(map, sheet)?;
-    for r in 0..8 {
-        assert_eq!(rt; session.add(map, sheet, EIGHT[r as usize])?, r);
+    for (r, row) in (0..).zip(EIGHT) {
+        assert_eq!(rt; session.add(map, sheet, row)?, r);
     }
     for r in 0..count {
         assert_eq!(rt; session.mark(map, sheet)?.row, r);
@@ -75,8 +75,8 @@ fn verdicts(rt: HostRuntime) -> Result<(), Fail> {
     let mut sheet = [9; 4];
     let session = eight_rows(&rt, &map, &mut sheet, 8)?;
     let expected = [true, false, false, true, true, false, true, false];
-    for r in 0..8 {
-        assert_eq!(rt; session.verdict(&map, &sheet, r)?, expected[r as usize]);
+    for (r, holds) in (0..).zip(expected) {
+        assert_eq!(rt; session.verdict(&map, &sheet, r)?, holds);
     }
     Ok(())
 }
@@ -91,17 +91,17 @@ fn runs(rt: HostRuntime) -> Result<(), Fail> {
     let mut run = [6; 5];
     assert_eq!(rt;
         told(session.witness(&map, &sheet, 0, 6, &mut work, &mut run)),
-        (0, 2)
+        Ok(2)
     );
     assert!(rt; work == [2, 1, 3, 0, 5] && run == [0, 1, 3, 6, 6]);
     assert_eq!(rt;
         told(session.witness(&map, &sheet, 3, 6, &mut work, &mut run)),
-        (0, 0)
+        Ok(0)
     );
     assert!(rt; work == [2, 1, 3, 0, 5] && run == [3, 1, 3, 6, 6]);
     assert_eq!(rt;
         told(session.witness(&map, &sheet, 2, 6, &mut work, &mut run)),
-        (0, 3)
+        Ok(3)
     );
     assert!(rt; run == [2, 0, 1, 3, 6]);
     Ok(())

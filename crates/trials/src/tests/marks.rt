@@ -2,6 +2,7 @@
 use crate::tests::model::{Says, all_rows, at, reach, row_of};
 use map::Map;
 use session::held::Session;
+use std::array;
 use std::process::Abort;
 use std::test::Fail;
 use stl::row::Row;
@@ -24,24 +25,19 @@ fn word(facts: &[Says; 16], count: u32, s: u32) -> u64 {
 
 // The sheet of 20 words after the marking of the first `count` rows.
 fn words<M: Map>(map: &M, facts: &[Says; 16], count: u32) -> [u64; 20] {
-    let mut out = [SPARE; 20];
-    for s in 0..20 {
+    array::from_fn(|s| {
+        let s = s as u32;
         if s < map.size() {
-            out[s as usize] = word(facts, count, s);
+            word(facts, count, s)
+        } else {
+            SPARE
         }
-    }
-    out
+    })
 }
 
 // Whether the row holds at every start.
 fn at_all_starts<M: Map>(map: &M, says: &Says) -> bool {
-    let mut all = true;
-    for s in 0..map.size() {
-        if map.is_start(s) && !at(says, s) {
-            all = false;
-        }
-    }
-    all
+    (0..map.size()).all(|s| !map.is_start(s) || at(says, s))
 }
 
 // Adds the rows, in order.
@@ -52,8 +48,8 @@ pub(crate) fn add_all<M: Map>(
     sheet: &[u64],
     rows: &[Row; 16],
 ) -> Result<(), Fail> {
-    for r in 0..16 {
-        assert_eq!(rt; session.add(map, sheet, rows[r as usize])?, r);
+    for (r, row) in (0..).zip(rows) {
+        assert_eq!(rt; session.add(map, sheet, *row)?, r);
     }
     Ok(())
 }
@@ -66,27 +62,13 @@ fn tells<M: Map>(
     sheet: &[u64],
     facts: &[Says; 16],
 ) -> Result<(), Fail> {
-    for r in 0..16 {
-        let says = facts[r as usize];
+    for (r, says) in (0..).zip(facts) {
         for s in 0..map.size() {
-            assert_eq!(rt; session.label(map, sheet, s, r)?, at(&says, s));
+            assert_eq!(rt; session.label(map, sheet, s, r)?, at(says, s));
         }
-        assert_eq!(rt; session.verdict(map, sheet, r)?, at_all_starts(map, &says));
+        assert_eq!(rt; session.verdict(map, sheet, r)?, at_all_starts(map, says));
     }
     Ok(())
-}
-
-// Whether the two have the same words.
-fn same(a: &[u64], b: &[u64]) -> bool {
-    if a.len() != b.len() {
-        return false;
-    }
-    for i in 0..a.len() {
-        if a[i] != b[i] {
-            return false;
-        }
-    }
-    true
 }
 
 // Marks the rows in order; after each, the reach and every word of the sheet are the model's.
@@ -98,11 +80,11 @@ fn marks_all<M: Map>(
     rows: &[Row; 16],
     facts: &[Says; 16],
 ) -> Result<(), Fail> {
-    for r in 0..16 {
+    for (r, row) in (0..).zip(rows) {
         let done = session.mark(map, sheet)?;
         assert_eq!(rt; done.row, r);
-        assert_eq!(rt; done.reach, reach(map, facts, rows[r as usize]));
-        assert!(rt; same(sheet, &words(map, facts, r + 1)));
+        assert_eq!(rt; done.reach, reach(map, facts, *row));
+        assert!(rt; &*sheet == words(map, facts, r + 1).as_slice());
     }
     Ok(())
 }
@@ -112,9 +94,9 @@ pub(crate) fn agrees<M: Map>(rt: &impl Abort, map: &M, rows: &[Row; 16]) -> Resu
     let facts = all_rows(map, rows);
     let mut sheet = [SPARE; 20];
     let mut session = Session::open(map, &mut sheet)?;
-    assert!(rt; same(&sheet, &words(map, &facts, 0)));
+    assert!(rt; sheet == words(map, &facts, 0));
     add_all(rt, map, &mut session, &sheet, rows)?;
-    assert!(rt; same(&sheet, &words(map, &facts, 0)));
+    assert!(rt; sheet == words(map, &facts, 0));
     marks_all(rt, map, &mut session, &mut sheet, rows, &facts)?;
     tells(rt, map, &session, &sheet, &facts)
 }

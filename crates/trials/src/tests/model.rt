@@ -1,10 +1,8 @@
 // What rows say on a map of at most 16 states, worked out in the plainest way.
 use look::Look;
 use map::Map;
+use std::array;
 use stl::row::Row;
-
-// Stands where there is no run.
-pub const NONE: u32 = 4294967295;
 
 // What a row says at each state.
 pub type Says = [bool; 16];
@@ -21,61 +19,35 @@ pub(crate) fn row_of(facts: &[Says; 16], a: u32) -> Says {
 
 // Where the sign is on.
 fn signs<M: Map>(map: &M, k: u16) -> Says {
-    let mut out = [false; 16];
-    for s in 0..16 {
-        if let Some(look) = map.look_of(s) {
-            out[s as usize] = look.shows(k);
-        }
-    }
-    out
+    array::from_fn(|s| map.look_of(s as u32).is_some_and(|look| look.shows(k)))
 }
 
 // Where a does not hold.
 fn nots(a: &Says) -> Says {
-    let mut out = [false; 16];
-    for s in 0..16 {
-        out[s] = !a[s];
-    }
-    out
+    array::from_fn(|s| !at(a, s as u32))
 }
 
 // Where a or b holds.
 fn ors(a: &Says, b: &Says) -> Says {
-    let mut out = [false; 16];
-    for s in 0..16 {
-        out[s] = a[s] || b[s];
-    }
-    out
+    array::from_fn(|s| at(a, s as u32) || at(b, s as u32))
 }
 
 // Whether some entry of the list of s leads to a state where a holds.
 fn some_entry<M: Map>(map: &M, s: u32, a: &Says) -> bool {
-    for k in 0..map.list_len(s) {
-        if let Some(t) = map.entry(s, k) {
-            if at(a, t) {
-                return true;
-            }
-        }
-    }
-    false
+    (0..map.list_len(s)).any(|k| map.entry(s, k).is_some_and(|t| at(a, t)))
 }
 
 // Where some entry leads to a state where a holds.
 fn nexts<M: Map>(map: &M, a: &Says) -> Says {
-    let mut out = [false; 16];
-    for s in 0..16 {
-        out[s as usize] = some_entry(map, s, a);
-    }
-    out
+    array::from_fn(|s| some_entry(map, s as u32, a))
 }
 
 // Where a run of at most d + 1 moves begins, by where one of at most d moves does.
 fn one_more<M: Map>(map: &M, a: &Says, b: &Says, can: &Says) -> Says {
-    let mut out = [false; 16];
-    for s in 0..16 {
-        out[s as usize] = at(b, s) || (at(a, s) && some_entry(map, s, can));
-    }
-    out
+    array::from_fn(|s| {
+        let s = s as u32;
+        at(b, s) || (at(a, s) && some_entry(map, s, can))
+    })
 }
 
 // Where a run of at most 16 moves begins.
@@ -88,13 +60,13 @@ fn untils<M: Map>(map: &M, a: &Says, b: &Says) -> Says {
 }
 
 // The shortest length of a run from each state: the least d for which one of at most d moves begins there.
-pub(crate) fn shortest<M: Map>(map: &M, a: &Says, b: &Says) -> [u32; 16] {
-    let mut best = [NONE; 16];
+pub(crate) fn shortest<M: Map>(map: &M, a: &Says, b: &Says) -> [Option<u32>; 16] {
+    let mut best = [None; 16];
     let mut can = *b;
     for d in 0..17 {
-        for s in 0..16 {
-            if can[s] && best[s] == NONE {
-                best[s] = d;
+        for (best, can) in best.iter_mut().zip(can) {
+            if can && best.is_none() {
+                *best = Some(d);
             }
         }
         can = one_more(map, a, b, &can);
@@ -129,11 +101,6 @@ pub(crate) fn reach<M: Map>(map: &M, facts: &[Says; 16], row: Row) -> u32 {
         return 0;
     };
     let best = shortest(map, &row_of(facts, a), &row_of(facts, b));
-    let mut most = 0;
-    for s in 0..16 {
-        if best[s as usize] != NONE && s < map.size() {
-            most = best[s as usize].max(most);
-        }
-    }
-    most
+    let lengths = best.iter().take(map.size() as usize);
+    lengths.map(|length| length.unwrap_or(0)).max().unwrap_or(0)
 }

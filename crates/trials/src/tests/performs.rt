@@ -6,6 +6,7 @@ use calls::fault::SessionFault;
 use map::Map;
 use rig::worked_example;
 use session::held::Session;
+use std::array;
 use std::process::Abort;
 use std::test::Fail;
 use stl::row::Row;
@@ -44,19 +45,6 @@ const CASES: [(Call, Answer); 18] = [
     (Call::Verdict(1), Answer::Verdict(false)),
 ];
 
-// Whether the two answers are the same.
-fn same(a: Answer, b: Answer) -> bool {
-    match (a, b) {
-        (Answer::Added(x), Answer::Added(y)) => x == y,
-        (Answer::Marked(x, m), Answer::Marked(y, n)) => x == y && m == n,
-        (Answer::Label(x), Answer::Label(y)) => x == y,
-        (Answer::Verdict(x), Answer::Verdict(y)) => x == y,
-        (Answer::Witness(x), Answer::Witness(y)) => x == y,
-        (Answer::Refused(x), Answer::Refused(y)) => x == y,
-        _ => false,
-    }
-}
-
 // The call, made by the function of its name.
 fn made<M: Map>(
     map: &M,
@@ -67,26 +55,26 @@ fn made<M: Map>(
     asked: Call,
 ) -> Answer {
     match asked {
-        Call::Add(row) => match session.add(map, sheet, row) {
-            Ok(r) => Answer::Added(r),
-            Err(fault) => Answer::Refused(fault),
-        },
-        Call::Mark => match session.mark(map, sheet) {
-            Ok(done) => Answer::Marked(done.row, done.reach),
-            Err(fault) => Answer::Refused(fault),
-        },
-        Call::Label(s, r) => match session.label(map, sheet, s, r) {
-            Ok(on) => Answer::Label(on),
-            Err(fault) => Answer::Refused(fault),
-        },
-        Call::Verdict(r) => match session.verdict(map, sheet, r) {
-            Ok(holds) => Answer::Verdict(holds),
-            Err(fault) => Answer::Refused(fault),
-        },
-        Call::Witness(s, r) => match session.witness(map, sheet, s, r, work, run) {
-            Ok(moves) => Answer::Witness(moves),
-            Err(fault) => Answer::Refused(fault),
-        },
+        Call::Add(row) => {
+            let outcome = session.add(map, sheet, row);
+            outcome.map_or_else(Answer::Refused, Answer::Added)
+        }
+        Call::Mark => {
+            let outcome = session.mark(map, sheet);
+            outcome.map_or_else(Answer::Refused, |m| Answer::Marked(m.row, m.reach))
+        }
+        Call::Label(s, r) => {
+            let outcome = session.label(map, sheet, s, r);
+            outcome.map_or_else(Answer::Refused, Answer::Label)
+        }
+        Call::Verdict(r) => {
+            let outcome = session.verdict(map, sheet, r);
+            outcome.map_or_else(Answer::Refused, Answer::Verdict)
+        }
+        Call::Witness(s, r) => {
+            let outcome = session.witness(map, sheet, s, r, work, run);
+            outcome.map_or_else(Answer::Refused, Answer::Witness)
+        }
     }
 }
 
@@ -128,7 +116,7 @@ fn alike<M: Map>(rt: &impl Abort, map: &M, asked: &[Call]) -> Result<Answer, Fai
     let answer = last_performed(map, &mut sheet, &mut work, &mut run, asked)?;
     let (mut sheet2, mut work2, mut run2) = ([3; 6], [4; 5], [5; 2]);
     let answer2 = last_made(map, &mut sheet2, &mut work2, &mut run2, asked)?;
-    assert!(rt; same(answer, answer2));
+    assert_eq!(rt; answer, answer2);
     assert!(rt; sheet == sheet2);
     assert!(rt; work == work2);
     assert!(rt; run == run2);
@@ -137,11 +125,7 @@ fn alike<M: Map>(rt: &impl Abort, map: &M, asked: &[Call]) -> Result<Answer, Fai
 
 // The calls of the cases.
 fn written_asked() -> [Call; 18] {
-    let mut asked = [Call::Mark; 18];
-    for i in 0..18 {
-        asked[i] = CASES[i].0;
-    }
-    asked
+    array::from_fn(|i| CASES.get(i).map_or(Call::Mark, |case| case.0))
 }
 
 #[test]
@@ -149,8 +133,8 @@ fn written_calls(rt: HostRuntime) -> Result<(), Fail> {
     let rig = worked_example();
     let map = four(&rig);
     let asked = written_asked();
-    for i in 0..18 {
-        assert!(rt; same(alike(&rt, &map, &asked[0..i + 1])?, CASES[i].1));
+    for (i, (_, answer)) in CASES.iter().enumerate() {
+        assert_eq!(rt; alike(&rt, &map, &asked[..i + 1])?, *answer);
     }
     Ok(())
 }
@@ -169,17 +153,13 @@ fn thrown_call(dice: &mut Dice) -> Call {
 
 // Fifty such calls.
 fn thrown_asked(dice: &mut Dice) -> [Call; 50] {
-    let mut asked = [Call::Mark; 50];
-    for i in 0..50 {
-        asked[i] = thrown_call(dice);
-    }
-    asked
+    array::from_fn(|_| thrown_call(dice))
 }
 
 // All is alike after each of the calls.
 fn always_alike<M: Map>(rt: &impl Abort, map: &M, asked: &[Call]) -> Result<(), Fail> {
-    for i in 0..asked.len() {
-        let _ = alike(rt, map, &asked[0..i + 1])?;
+    for n in 1..asked.len() + 1 {
+        alike(rt, map, &asked[..n])?;
     }
     Ok(())
 }
@@ -188,7 +168,7 @@ fn always_alike<M: Map>(rt: &impl Abort, map: &M, asked: &[Call]) -> Result<(), 
 fn thrown_calls(rt: HostRuntime) -> Result<(), Fail> {
     let mut dice = Dice { seed: 15 };
     for _ in 0..60 {
-        let tables = thrown_tables(&mut dice, 6);
+        let tables = thrown_tables(rt.alloc(), &mut dice, 6)?;
         let asked = thrown_asked(&mut dice);
         always_alike(&rt, &tables.map(), &asked)?;
     }

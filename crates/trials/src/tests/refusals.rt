@@ -1,12 +1,13 @@
 // Each refusal by its number, with all that is lent as it was.
 use crate::tests::four_states::{WORDS, eight_rows, four};
 use crate::tests::marks::SPARE;
-use crate::tests::model::NONE;
 use crate::tests::witnesses::told;
 use calls::fault::SessionFault;
+use lengths::rounds::NONE;
 use listed::table::ListedMap;
 use look::switch::SwitchLook;
 use map::Map;
+use map::refusal::Refusal;
 use rig::worked_example;
 use session::held::Session;
 use std::process::Abort;
@@ -22,12 +23,9 @@ const SEVEN: [u64; 5] = [89, 93, 87, 99, SPARE];
 // Work tables and run tables before a call.
 const OLD: [u32; 5] = [71, 72, 73, 74, 75];
 
-// The number of the refusal, 0 where there is none.
-fn number<T: Drop>(answer: Result<T, SessionFault>) -> u8 {
-    match answer {
-        Ok(_) => 0,
-        Err(fault) => fault.number(),
-    }
+// The number of the refusal, if there is one.
+fn number<T: Drop>(answer: Result<T, SessionFault>) -> Option<u8> {
+    answer.err().map(|fault| fault.number())
 }
 
 // A session with eight rows and seven marks goes on as if nothing had been refused.
@@ -47,11 +45,11 @@ fn goes_on<M: Map>(
             );
         }
     }
-    assert_eq!(rt; number(session.label(map, &sheet, 0, 7)), 22);
+    assert_eq!(rt; number(session.label(map, &sheet, 0, 7)), Some(22));
     let done = session.mark(map, &mut sheet)?;
     assert!(rt; done.row == 7 && done.reach == 0);
     assert!(rt; sheet == [WORDS[0], WORDS[1], WORDS[2], WORDS[3], SPARE]);
-    assert_eq!(rt; number(session.mark(map, &mut sheet)), 20);
+    assert_eq!(rt; number(session.mark(map, &mut sheet)), Some(20));
     assert_eq!(rt; session.add(map, &sheet, Row::Next(7))?, 8);
     Ok(())
 }
@@ -68,7 +66,7 @@ fn refuses_run<M: Map>(
 ) {
     let (mut work, mut run) = (OLD, OLD);
     let answer = session.witness(map, sheet, s, r, &mut work, &mut run);
-    assert_eq!(rt; told(answer), (expected, 0));
+    assert_eq!(rt; told(answer), Err((expected, None)));
     assert!(rt; work == OLD && run == OLD);
 }
 
@@ -81,7 +79,7 @@ fn empty() -> ListedMap<'static, SwitchLook> {
 fn refuses_open<M: Map>(rt: &impl Abort, map: &M, words: usize, expected: u8) {
     let mut sheet = FIVE;
     let opened = Session::open(map, &mut sheet[0..words.min(5)]);
-    assert_eq!(rt; number(opened), expected);
+    assert_eq!(rt; number(opened), Some(expected));
     assert!(rt; sheet == FIVE);
 }
 
@@ -101,17 +99,17 @@ fn a_short_sheet_to_open(rt: HostRuntime) {
     refuses_open(&rt, &map, 3, 17);
     refuses_open(&rt, &map, 0, 17);
     let mut sheet = FIVE;
-    assert_eq!(rt; number(Session::open(&map, &mut sheet)), 0);
+    assert_eq!(rt; number(Session::open(&map, &mut sheet)), None);
     assert!(rt; sheet == [0, 0, 0, 0, SPARE]);
 }
 
 // Every call is refused where the sheet is too short.
 fn refuses_all<M: Map>(rt: &impl Abort, map: &M, session: &mut Session, sheet: &mut [u64]) {
-    assert_eq!(rt; number(session.add(map, sheet, Row::True)), 17);
-    assert_eq!(rt; number(session.add(map, sheet, Row::Not(8))), 17);
-    assert_eq!(rt; number(session.mark(map, sheet)), 17);
-    assert_eq!(rt; number(session.label(map, sheet, 0, 0)), 17);
-    assert_eq!(rt; number(session.verdict(map, sheet, 0)), 17);
+    assert_eq!(rt; number(session.add(map, sheet, Row::True)), Some(17));
+    assert_eq!(rt; number(session.add(map, sheet, Row::Not(8))), Some(17));
+    assert_eq!(rt; number(session.mark(map, sheet)), Some(17));
+    assert_eq!(rt; number(session.label(map, sheet, 0, 0)), Some(17));
+    assert_eq!(rt; number(session.verdict(map, sheet, 0)), Some(17));
     refuses_run(rt, map, session, sheet, 0, 6, 17);
 }
 
@@ -143,8 +141,8 @@ fn fill<M: Map>(
     for r in 0..64 {
         assert_eq!(rt; session.add(map, sheet, in_turn(r))?, r);
     }
-    assert_eq!(rt; number(session.add(map, sheet, Row::True)), 18);
-    assert_eq!(rt; number(session.add(map, sheet, Row::Not(64))), 18);
+    assert_eq!(rt; number(session.add(map, sheet, Row::True)), Some(18));
+    assert_eq!(rt; number(session.add(map, sheet, Row::Not(64))), Some(18));
     for r in 0..64 {
         assert_eq!(rt; session.mark(map, sheet)?.row, r);
     }
@@ -158,9 +156,9 @@ fn a_row_too_many(rt: HostRuntime) -> Result<(), Fail> {
     let mut sheet = FIVE;
     let mut session = Session::open(&map, &mut sheet)?;
     fill(&rt, &map, &mut session, &mut sheet)?;
-    assert_eq!(rt; number(session.add(&map, &sheet, Row::True)), 18);
-    assert_eq!(rt; number(session.mark(&map, &mut sheet)), 20);
-    assert_eq!(rt; number(session.label(&map, &sheet, 3, 64)), 22);
+    assert_eq!(rt; number(session.add(&map, &sheet, Row::True)), Some(18));
+    assert_eq!(rt; number(session.mark(&map, &mut sheet)), Some(20));
+    assert_eq!(rt; number(session.label(&map, &sheet, 3, 64)), Some(22));
     assert!(rt; session.label(&map, &sheet, 3, 62)?);
     assert!(rt; !session.label(&map, &sheet, 3, 63)?);
     let word = 0x5555_5555_5555_5555;
@@ -182,7 +180,7 @@ fn a_row_that_names_no_earlier_row(rt: HostRuntime) -> Result<(), Fail> {
         Row::Until(u32::MAX, 0),
         Row::Until(0, 8),
     ] {
-        assert_eq!(rt; number(session.add(&map, &sheet, row)), 19);
+        assert_eq!(rt; number(session.add(&map, &sheet, row)), Some(19));
     }
     goes_on(&rt, &map, session, sheet)
 }
@@ -194,8 +192,8 @@ fn nothing_to_mark(rt: HostRuntime) -> Result<(), Fail> {
     let mut sheet = FIVE;
     let mut session = eight_rows(&rt, &map, &mut sheet, 8)?;
     let before = sheet;
-    assert_eq!(rt; number(session.mark(&map, &mut sheet)), 20);
-    assert_eq!(rt; number(session.mark(&map, &mut sheet)), 20);
+    assert_eq!(rt; number(session.mark(&map, &mut sheet)), Some(20));
+    assert_eq!(rt; number(session.mark(&map, &mut sheet)), Some(20));
     assert!(rt; sheet == before);
     assert!(rt; session.label(&map, &sheet, 1, 7)?);
     assert_eq!(rt; session.add(&map, &sheet, Row::Not(7))?, 8);
@@ -210,8 +208,8 @@ fn no_such_state(rt: HostRuntime) -> Result<(), Fail> {
     let map = four(&rig);
     let mut sheet = FIVE;
     let session = eight_rows(&rt, &map, &mut sheet, 7)?;
-    assert_eq!(rt; number(session.label(&map, &sheet, 4, 0)), 21);
-    assert_eq!(rt; number(session.label(&map, &sheet, u32::MAX, 64)), 21);
+    assert_eq!(rt; number(session.label(&map, &sheet, 4, 0)), Some(21));
+    assert_eq!(rt; number(session.label(&map, &sheet, u32::MAX, 64)), Some(21));
     refuses_run(&rt, &map, &session, &sheet, 4, 6, 21);
     refuses_run(&rt, &map, &session, &sheet, u32::MAX, 64, 21);
     goes_on(&rt, &map, session, sheet)
@@ -224,8 +222,8 @@ fn not_marked(rt: HostRuntime) -> Result<(), Fail> {
     let mut sheet = FIVE;
     let session = eight_rows(&rt, &map, &mut sheet, 7)?;
     for r in [7, 8, 64, u32::MAX] {
-        assert_eq!(rt; number(session.label(&map, &sheet, 0, r)), 22);
-        assert_eq!(rt; number(session.verdict(&map, &sheet, r)), 22);
+        assert_eq!(rt; number(session.label(&map, &sheet, 0, r)), Some(22));
+        assert_eq!(rt; number(session.verdict(&map, &sheet, r)), Some(22));
         refuses_run(&rt, &map, &session, &sheet, 0, r, 22);
     }
     goes_on(&rt, &map, session, sheet)
@@ -251,9 +249,9 @@ fn a_short_work_table(rt: HostRuntime) -> Result<(), Fail> {
     let (mut work, mut run) = (OLD, OLD);
     let session = eight_rows(&rt, &map, &mut sheet, 7)?;
     let answer = session.witness(&map, &sheet, 0, 6, &mut work[0..3], &mut run);
-    assert_eq!(rt; told(answer), (24, 0));
+    assert_eq!(rt; told(answer), Err((24, None)));
     let answer = session.witness(&map, &sheet, 0, 6, &mut work[0..0], &mut run[0..0]);
-    assert_eq!(rt; told(answer), (24, 0));
+    assert_eq!(rt; told(answer), Err((24, None)));
     assert!(rt; work == OLD && run == OLD);
     goes_on(&rt, &map, session, sheet)
 }
@@ -262,7 +260,7 @@ fn a_short_work_table(rt: HostRuntime) -> Result<(), Fail> {
 fn no_run_from<M: Map>(rt: &impl Abort, map: &M, session: &Session, sheet: &[u64], s: u32) {
     let (mut work, mut run) = (OLD, OLD);
     let answer = session.witness(map, sheet, s, 8, &mut work, &mut run);
-    assert_eq!(rt; told(answer), (25, 0));
+    assert_eq!(rt; told(answer), Err((25, None)));
     assert!(rt; work == [NONE, 1, NONE, 0, 75] && run == OLD);
 }
 
@@ -279,7 +277,7 @@ fn no_run(rt: HostRuntime) -> Result<(), Fail> {
     no_run_from(&rt, &map, &session, &sheet, 0);
     no_run_from(&rt, &map, &session, &sheet, 2);
     assert!(rt; sheet == before);
-    assert_eq!(rt; number(session.mark(&map, &mut sheet)), 20);
+    assert_eq!(rt; number(session.mark(&map, &mut sheet)), Some(20));
     assert_eq!(rt; session.add(&map, &sheet, Row::Not(8))?, 9);
     Ok(())
 }
@@ -292,11 +290,11 @@ fn a_short_run_table(rt: HostRuntime) -> Result<(), Fail> {
     let (mut work, mut run) = (OLD, OLD);
     let session = eight_rows(&rt, &map, &mut sheet, 7)?;
     let answer = session.witness(&map, &sheet, 0, 6, &mut work, &mut run[0..2]);
-    assert_eq!(rt; told(answer), (26, 2));
+    assert_eq!(rt; told(answer), Err((26, Some(2))));
     assert!(rt; work == [2, 1, 3, 0, 75] && run == OLD);
     work = OLD;
     let answer = session.witness(&map, &sheet, 3, 6, &mut work, &mut run[0..0]);
-    assert_eq!(rt; told(answer), (26, 0));
+    assert_eq!(rt; told(answer), Err((26, Some(0))));
     assert!(rt; work == [2, 1, 3, 0, 75] && run == OLD);
     goes_on(&rt, &map, session, sheet)
 }

@@ -42,31 +42,29 @@ pub(crate) fn tried<M: Map>(rt: &impl Abort, map: &M, dice: &mut Dice) -> Result
 // The greatest reach of the written rows, by the model.
 fn longest_run<M: Map>(map: &M) -> u32 {
     let facts = all_rows(map, &ROWS);
-    let mut most = 0;
-    for row in ROWS {
-        most = reach(map, &facts, row).max(most);
-    }
-    most
+    let reaches = ROWS.iter().map(|row| reach(map, &facts, *row));
+    reaches.max().unwrap_or(0)
 }
 
 #[test]
-fn many_listed_maps_have_long_runs(rt: HostRuntime) {
+fn many_listed_maps_have_long_runs(rt: HostRuntime) -> Result<(), Fail> {
     let mut dice = Dice { seed: 11 };
     let mut long: u32 = 0;
     for _ in 0..1000 {
-        let made = thrown_tables(&mut dice, 6);
+        let made = thrown_tables(rt.alloc(), &mut dice, 6)?;
         if longest_run(&made.map()) >= 3 {
             long = long.saturating_add(1);
         }
     }
     assert!(rt; long > 40, "{long} maps");
+    Ok(())
 }
 
 #[test]
 fn listed_maps(rt: HostRuntime) -> Result<(), Fail> {
     let mut dice = Dice { seed: 11 };
     for _ in 0..1000 {
-        let made = thrown_tables(&mut dice, 6);
+        let made = thrown_tables(rt.alloc(), &mut dice, 6)?;
         tried(&rt, &made.map(), &mut dice)?;
     }
     Ok(())
@@ -76,7 +74,7 @@ fn listed_maps(rt: HostRuntime) -> Result<(), Fail> {
 fn switch_maps(rt: HostRuntime) -> Result<(), Fail> {
     let mut dice = Dice { seed: 12 };
     for _ in 0..300 {
-        let made = thrown_board(&mut dice, 3);
+        let made = thrown_board(rt.alloc(), &mut dice, 3)?;
         tried(&rt, &made.map(), &mut dice)?;
     }
     Ok(())
@@ -86,8 +84,8 @@ fn switch_maps(rt: HostRuntime) -> Result<(), Fail> {
 fn joint_maps(rt: HostRuntime) -> Result<(), Fail> {
     let mut dice = Dice { seed: 13 };
     for _ in 0..100 {
-        let left = thrown_tables(&mut dice, 4);
-        let right = thrown_board(&mut dice, 2);
+        let left = thrown_tables(rt.alloc(), &mut dice, 4)?;
+        let right = thrown_board(rt.alloc(), &mut dice, 2)?;
         tried(&rt, &JointMap::new(left.map(), right.map()), &mut dice)?;
         tried(&rt, &JointMap::new(right.map(), left.map()), &mut dice)?;
     }

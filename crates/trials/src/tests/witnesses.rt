@@ -1,8 +1,10 @@
 // Shortest runs, against the model.
 use crate::tests::marks::{SPARE, add_all};
-use crate::tests::model::{NONE, Says, all_rows, at, row_of, shortest};
+use crate::tests::model::{Says, all_rows, at, row_of, shortest};
 use calls::fault::SessionFault;
+use lengths::rounds::NONE;
 use map::Map;
+use map::refusal::Refusal;
 use session::held::Session;
 use std::process::Abort;
 use std::test::Fail;
@@ -13,35 +15,31 @@ pub const OLD_WORK: u32 = 7777;
 
 pub const OLD_RUN: u32 = 8888;
 
-// The number of the refusal, 0 where there is none, and the answer or what the refusal carries.
-pub(crate) fn told(answer: Result<u32, SessionFault>) -> (u8, u32) {
-    match answer {
-        Ok(n) => (0, n),
-        Err(fault) => (fault.number(), fault.length().unwrap_or(0)),
-    }
+// What was answered, or the number of the refusal and what that carries.
+pub(crate) fn told<T: Drop>(answer: Result<T, SessionFault>) -> Result<T, (u8, Option<u32>)> {
+    answer.map_err(|fault| (fault.number(), fault.carried()))
 }
 
 // Whether t is in the list of s.
 fn leads<M: Map>(map: &M, s: u32, t: u32) -> bool {
-    let mut found = false;
-    for k in 0..map.list_len(s) {
-        if map.entry(s, k) == Some(t) {
-            found = true;
-        }
-    }
-    found
+    (0..map.list_len(s)).any(|k| map.entry(s, k) == Some(t))
 }
 
 // The table has the shortest length of each state, and is as it was past them.
-fn has_lengths<M: Map>(rt: &impl Abort, map: &M, best: &[u32; 16], work: &[u32; 20]) {
-    for s in 0..20 {
-        let expected = if s < map.size() {
-            best.get(s as usize).copied().unwrap_or(NONE)
+fn has_lengths<M: Map>(rt: &impl Abort, map: &M, best: &[Option<u32>; 16], work: &[u32; 20]) {
+    for (s, entry) in work.iter().enumerate() {
+        let expected = if s < map.size() as usize {
+            length_at(best, s).unwrap_or(NONE)
         } else {
             OLD_WORK
         };
-        assert_eq!(rt; work[s as usize], expected);
+        assert_eq!(rt; *entry, expected);
     }
+}
+
+// The shortest length at s, where there is one.
+fn length_at(best: &[Option<u32>; 16], s: usize) -> Option<u32> {
+    best.get(s).copied().flatten()
 }
 
 // The table has a run of this length from s for a until b, and is as it was past it.
@@ -56,14 +54,13 @@ fn has_run<M: Map>(
 ) -> Result<(), Fail> {
     assert_eq!(rt; run[0], s);
     let mut last = s;
-    for i in 1..20 {
-        let x = run[i as usize];
+    for (i, x) in (0..).zip(run).skip(1) {
         if i <= length {
             assert!(rt; at(a, last) || at(b, last));
-            assert!(rt; leads(map, last, x));
-            last = x;
+            assert!(rt; leads(map, last, *x));
+            last = *x;
         } else {
-            assert_eq!(rt; x, OLD_RUN);
+            assert_eq!(rt; *x, OLD_RUN);
         }
     }
     assert!(rt; length < 20 && at(b, last));
@@ -86,15 +83,13 @@ fn shows_run<M: Map>(
     let mut run = [OLD_RUN; 20];
     let answer = told(session.witness(map, sheet, s, r, &mut work, &mut run));
     has_lengths(rt, map, &best, &work);
-    let length = best.get(s as usize).copied().unwrap_or(NONE);
-    if length == NONE {
-        assert_eq!(rt; answer, (25, 0));
+    let Some(length) = length_at(&best, s as usize) else {
+        assert_eq!(rt; answer, Err((25, None)));
         assert!(rt; run == [OLD_RUN; 20]);
-        Ok(())
-    } else {
-        assert_eq!(rt; answer, (0, length));
-        has_run(rt, map, &run, s, length, a, b)
-    }
+        return Ok(());
+    };
+    assert_eq!(rt; answer, Ok(length));
+    has_run(rt, map, &run, s, length, a, b)
 }
 
 // A session with the rows added and marked.
@@ -121,8 +116,8 @@ pub(crate) fn witnesses_agree<M: Map>(
     let facts = all_rows(map, rows);
     let mut sheet = [SPARE; 20];
     let session = marked(rt, map, &mut sheet, rows)?;
-    for r in 0..16 {
-        if let Row::Until(a, b) = rows[r as usize] {
+    for (r, row) in (0..).zip(rows) {
+        if let Row::Until(a, b) = *row {
             let (a, b) = (row_of(&facts, a), row_of(&facts, b));
             for s in 0..map.size() {
                 shows_run(rt, map, &session, &sheet, s, r, &a, &b)?;
