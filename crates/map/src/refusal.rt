@@ -2,8 +2,10 @@
 ghost use Rattle.std.specs.Prelude.{◌≡◌};
 ghost use Rattle.map.specs.Questions.{Refusal as Told};
 
-// A kind of refusal: each has a number, and may carry the place at fault, or a length.
-pub trait Refusal: Copy {
+use std::error::Error;
+
+// A kind of refusal: each says what is wrong, has a number, and may carry the place at fault, or a length.
+pub trait Refusal: Copy + Error {
     // what it tells
     ghost told: { Self → Told };
 

@@ -5,7 +5,7 @@ use listed::table::ListedMap;
 use map::Map;
 use rig::worked_example;
 use session::held::Session;
-use std::io;
+use std::{fmt, io};
 use stl::row::Row;
 
 // A session on the map with all the rows added and marked.
@@ -24,15 +24,20 @@ pub(crate) fn ready<M: Map>(
     Ok(session)
 }
 
-// The row in words.
-fn say_row(rt: &HostRuntime, row: Row) -> io::Result<()> {
-    match row {
-        Row::True => print!(rt; "true"),
-        Row::Sign(k) => print!(rt; "sign {k}"),
-        Row::Not(a) => print!(rt; "not {a}"),
-        Row::Or(a, b) => print!(rt; "or {a} {b}"),
-        Row::Next(a) => print!(rt; "next {a}"),
-        Row::Until(a, b) => print!(rt; "until {a} {b}"),
+// A row in words.
+#[derive(Clone, Copy)]
+struct Words(Row);
+
+impl fmt::Display for Words {
+    fn fmt<W: fmt::Write>(&self, f: &mut fmt::Formatter<W>) -> fmt::Result {
+        match self.0 {
+            Row::True => write!(f, "true"),
+            Row::Sign(k) => write!(f, "sign {k}"),
+            Row::Not(a) => write!(f, "not {a}"),
+            Row::Or(a, b) => write!(f, "or {a} {b}"),
+            Row::Next(a) => write!(f, "next {a}"),
+            Row::Until(a, b) => write!(f, "until {a} {b}"),
+        }
     }
 }
 
@@ -49,11 +54,10 @@ fn mark_one<M: Map>(
         Err(fault) => return show::fault(rt, fault),
     };
     let (r, reach) = (done.row, done.reach);
-    print!(rt; "Row {r}, ")?;
-    say_row(rt, row)?;
+    let words = Words(row);
     match session.verdict(map, sheet, r) {
-        Ok(true) => println!(rt; ": yes, reach {reach}."),
-        Ok(false) => println!(rt; ": no, reach {reach}."),
+        Ok(true) => println!(rt; "Row {r}, {words}: yes, reach {reach}."),
+        Ok(false) => println!(rt; "Row {r}, {words}: no, reach {reach}."),
         Err(fault) => show::fault(rt, fault),
     }
 }

@@ -3,7 +3,9 @@ use calls::fault::SessionFault;
 use look::Look;
 use look::switch::SwitchLook;
 use map::Map;
+use map::made::Made;
 use map::read::sign_at;
+use map::refusal::Refusal;
 use std::io;
 
 // How many entries each table has.
@@ -80,45 +82,25 @@ pub(crate) fn walk<M: Map>(rt: &HostRuntime, map: &M, s: u32) -> io::Result<()> 
     println!(rt; ", and so on.")
 }
 
-// A refusal: its number, the entry that it carries, if any, and the size that the map has then.
-pub(crate) fn refusal(
-    rt: &HostRuntime,
-    number: u8,
-    entry: Option<u32>,
-    why: &str,
-    size: u32,
-) -> io::Result<()> {
-    match entry {
+// What became of what a map was to be made of: its size, or its refusal, with the entry that this carries, if any.
+pub(crate) fn became<M: Map + Made>(rt: &HostRuntime, map: &M) -> io::Result<()> {
+    let Some(fault) = map.fault() else {
+        return made(rt, map);
+    };
+    let (number, size) = (fault.number(), map.size());
+    match fault.carried() {
         Some(i) => println!(rt;
-            "Refused, number {number} at entry {i}: {why}. The map has size {size}."
+            "Refused, number {number} at entry {i}: {fault}. The map has size {size}."
         ),
-        None => println!(rt; "Refused, number {number}: {why}. The map has size {size}."),
-    }
-}
-
-// What a session's refusal says, in words.
-fn reason(fault: SessionFault) -> &'static str {
-    match fault {
-        SessionFault::NoState => "the map has no state",
-        SessionFault::ShortSheet => "the sheet has fewer words than the map has states",
-        SessionFault::TooManyRows => "there are 64 rows already",
-        SessionFault::NamesLaterRow => "a row names itself or a later row",
-        SessionFault::NothingToMark => "every row is marked",
-        SessionFault::NoSuchState => "there is no such state",
-        SessionFault::NotMarked => "the row is not marked",
-        SessionFault::NotUntil => "the row is no until",
-        SessionFault::ShortWork => "the work table has fewer entries than the map has states",
-        SessionFault::NoRun => "there is no run",
-        SessionFault::ShortRun(_) => "the run table has too few entries",
+        None => println!(rt; "Refused, number {number}: {fault}. The map has size {size}."),
     }
 }
 
 // A session's refusal: its number, the length that it carries, if any, and the reason.
 pub(crate) fn fault(rt: &HostRuntime, fault: SessionFault) -> io::Result<()> {
     let number = fault.number();
-    let why = reason(fault);
-    match fault.length() {
-        Some(moves) => println!(rt; "Refused, number {number} with length {moves}: {why}."),
-        None => println!(rt; "Refused, number {number}: {why}."),
+    match fault.carried() {
+        Some(moves) => println!(rt; "Refused, number {number} with length {moves}: {fault}."),
+        None => println!(rt; "Refused, number {number}: {fault}."),
     }
 }
