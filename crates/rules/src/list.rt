@@ -8,7 +8,7 @@ ghost use Rattle.stl.specs.Rows.{named, ordered};
 use crate::fault::RuleFault;
 use stl::row::Row;
 
-// The first `len` of the rows are the list.
+// The first `len` of the rows are the list. It is an array with a count, since a session takes no heap and a list is copied whole.
 #[derive(Clone, Copy)]
 pub struct RuleList {
     rows: [Row; 64],
@@ -52,11 +52,8 @@ impl RuleList {
     pub fn row(&self, r: u32) -> Option<Row>
         ensures { result ≡ slice_get (take self.now.len self.now.rows) r }
     {
-        if r < self.len {
-            Some(self.rows[r as usize])
-        } else {
-            None
-        }
+        let rows = &self.rows[..self.len as usize];
+        rows.get(r as usize).copied()
     }
 
     // One row more, or a refusal that leaves the list as it was.
