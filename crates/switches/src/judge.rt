@@ -1,5 +1,5 @@
 // Whether a panel and commands make a map.
-ghost use Rattle.std.specs.Prelude.{◌≡◌, ◌≤◌};
+ghost use Rattle.std.specs.Prelude.{◌≡◌};
 ghost use Rattle.map.specs.Questions.{first_no};
 ghost use Rattle.switches.specs.Masks.{within};
 ghost use Rattle.switches.specs.Switched.{right_command, right_commands, right_panel, questions};
@@ -10,15 +10,13 @@ use crate::panel::Panel;
 
 // Whether the mask has no switch from n on.
 fn is_within(n: u32, mask: u32) -> bool
-    requires { n ≤ 12 }
     ensures { result ≡ within n mask }
 {
-    mask < 1 << n
+    n >= 32 || mask < 1 << n
 }
 
 // Whether the masks of the command are as required.
 fn command_is_right(n: u32, c: Command) -> bool
-    requires { n ≤ 12 }
     ensures { result ≡ right_command n c }
 {
     let needs = is_within(n, c.need_on) & is_within(n, c.need_off);
@@ -28,7 +26,6 @@ fn command_is_right(n: u32, c: Command) -> bool
 
 // Whether the masks of all commands are as required.
 fn commands_are_right(n: u32, commands: &[Command]) -> bool
-    requires { n ≤ 12 }
     ensures { result ≡ right_commands n commands.now }
 {
     commands.iter().all(|c| command_is_right(n, *c))
@@ -36,7 +33,6 @@ fn commands_are_right(n: u32, commands: &[Command]) -> bool
 
 // Whether the masks of the panel are as required.
 fn panel_is_right(panel: Panel) -> bool
-    requires { panel.bits ≤ 12 }
     ensures { result ≡ right_panel panel }
 {
     is_within(panel.bits, panel.visible)

@@ -1,4 +1,5 @@
 // The four-state map, with every answer written out by hand.
+use crate::tests::desk::Desk;
 use crate::tests::dice::Dice;
 use crate::tests::small_maps::tried;
 use crate::tests::witnesses::told;
@@ -6,7 +7,6 @@ use listed::table::ListedMap;
 use look::switch::SwitchLook;
 use map::Map;
 use rig::{Rig, worked_example};
-use session::held::Session;
 use std::process::Abort;
 use std::test::Fail;
 use stl::row::Row;
@@ -31,21 +31,21 @@ pub(crate) fn four(rig: &Rig) -> ListedMap<'_, SwitchLook> {
     ListedMap::new(&rig.looks, &rig.starts, &rig.firsts, &rig.targets)
 }
 
-// A session with the eight rows, of which the first `count` are marked.
-pub(crate) fn eight_rows<M: Map>(
+// A session with the eight rows, of which the first `count` are marked, on a sheet that held this.
+pub(crate) fn eight_rows<'a, M: Map, const N: usize>(
     rt: &impl Abort,
-    map: &M,
-    sheet: &mut [u64],
+    map: &'a M,
+    sheet: [u64; N],
     count: u32,
-) -> Result<Session, Fail> {
-    let mut session = Session::open(map, sheet)?;
+) -> Result<Desk<'a, M, N>, Fail> {
+    let mut desk = Desk::open(map, sheet)?;
     for (r, row) in (0..).zip(EIGHT) {
-        assert_eq!(rt; session.add(map, sheet, row)?, r);
+        assert_eq!(rt; desk.add(row)?, r);
     }
     for r in 0..count {
-        assert_eq!(rt; session.mark(map, sheet)?.row, r);
+        assert_eq!(rt; desk.mark()?.row, r);
     }
-    Ok(session)
+    Ok(desk)
 }
 
 #[test]
@@ -58,13 +58,12 @@ fn the_four_states_and_the_model(rt: HostRuntime) -> Result<(), Fail> {
 fn labels_and_reaches(rt: HostRuntime) -> Result<(), Fail> {
     let rig = worked_example();
     let map = four(&rig);
-    let mut sheet = [9; 4];
-    let mut session = eight_rows(&rt, &map, &mut sheet, 6)?;
-    let done = session.mark(&map, &mut sheet)?;
+    let mut desk = eight_rows(&rt, &map, [9; 4], 6)?;
+    let done = desk.mark()?;
     assert!(rt; done.row == 6 && done.reach == 3);
-    let done = session.mark(&map, &mut sheet)?;
+    let done = desk.mark()?;
     assert!(rt; done.row == 7 && done.reach == 0);
-    assert!(rt; sheet == WORDS);
+    assert!(rt; desk.sheet == WORDS);
     Ok(())
 }
 
@@ -72,11 +71,10 @@ fn labels_and_reaches(rt: HostRuntime) -> Result<(), Fail> {
 fn verdicts(rt: HostRuntime) -> Result<(), Fail> {
     let rig = worked_example();
     let map = four(&rig);
-    let mut sheet = [9; 4];
-    let session = eight_rows(&rt, &map, &mut sheet, 8)?;
+    let desk = eight_rows(&rt, &map, [9; 4], 8)?;
     let expected = [true, false, false, true, true, false, true, false];
     for (r, holds) in (0..).zip(expected) {
-        assert_eq!(rt; session.verdict(&map, &sheet, r)?, holds);
+        assert_eq!(rt; desk.verdict(r)?, holds);
     }
     Ok(())
 }
@@ -85,24 +83,14 @@ fn verdicts(rt: HostRuntime) -> Result<(), Fail> {
 fn runs(rt: HostRuntime) -> Result<(), Fail> {
     let rig = worked_example();
     let map = four(&rig);
-    let mut sheet = [9; 4];
-    let session = eight_rows(&rt, &map, &mut sheet, 8)?;
+    let desk = eight_rows(&rt, &map, [9; 4], 8)?;
     let mut work = [5; 5];
     let mut run = [6; 5];
-    assert_eq!(rt;
-        told(session.witness(&map, &sheet, 0, 6, &mut work, &mut run)),
-        Ok(2)
-    );
+    assert_eq!(rt; told(desk.witness(0, 6, &mut work, &mut run)), Ok(2));
     assert!(rt; work == [2, 1, 3, 0, 5] && run == [0, 1, 3, 6, 6]);
-    assert_eq!(rt;
-        told(session.witness(&map, &sheet, 3, 6, &mut work, &mut run)),
-        Ok(0)
-    );
+    assert_eq!(rt; told(desk.witness(3, 6, &mut work, &mut run)), Ok(0));
     assert!(rt; work == [2, 1, 3, 0, 5] && run == [3, 1, 3, 6, 6]);
-    assert_eq!(rt;
-        told(session.witness(&map, &sheet, 2, 6, &mut work, &mut run)),
-        Ok(3)
-    );
+    assert_eq!(rt; told(desk.witness(2, 6, &mut work, &mut run)), Ok(3));
     assert!(rt; run == [2, 0, 1, 3, 6]);
     Ok(())
 }
@@ -111,11 +99,10 @@ fn runs(rt: HostRuntime) -> Result<(), Fail> {
 fn a_map_without_starts_says_yes(rt: HostRuntime) -> Result<(), Fail> {
     let rig = worked_example();
     let map = ListedMap::new(&rig.looks, &[0; 4], &rig.firsts, &rig.targets);
-    let mut sheet = [9; 4];
-    let session = eight_rows(&rt, &map, &mut sheet, 8)?;
+    let desk = eight_rows(&rt, &map, [9; 4], 8)?;
     for r in 0..8 {
-        assert!(rt; session.verdict(&map, &sheet, r)?);
+        assert!(rt; desk.verdict(r)?);
     }
-    assert!(rt; sheet == WORDS);
+    assert!(rt; desk.sheet == WORDS);
     Ok(())
 }

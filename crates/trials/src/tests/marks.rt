@@ -1,7 +1,7 @@
 // Labels, verdicts and reaches, against the model.
+use crate::tests::desk::Desk;
 use crate::tests::model::{Says, all_rows, at, reach, row_of};
 use map::Map;
-use session::held::Session;
 use std::array;
 use std::process::Abort;
 use std::test::Fail;
@@ -43,30 +43,22 @@ fn at_all_starts<M: Map>(map: &M, says: &Says) -> bool {
 // Adds the rows, in order.
 pub(crate) fn add_all<M: Map>(
     rt: &impl Abort,
-    map: &M,
-    session: &mut Session,
-    sheet: &[u64],
+    desk: &mut Desk<'_, M, 20>,
     rows: &[Row; 16],
 ) -> Result<(), Fail> {
     for (r, row) in (0..).zip(rows) {
-        assert_eq!(rt; session.add(map, sheet, *row)?, r);
+        assert_eq!(rt; desk.add(*row)?, r);
     }
     Ok(())
 }
 
 // The label and the verdict of each row, as the session tells them.
-fn tells<M: Map>(
-    rt: &impl Abort,
-    map: &M,
-    session: &Session,
-    sheet: &[u64],
-    facts: &[Says; 16],
-) -> Result<(), Fail> {
+fn tells<M: Map>(rt: &impl Abort, desk: &Desk<'_, M, 20>, facts: &[Says; 16]) -> Result<(), Fail> {
     for (r, says) in (0..).zip(facts) {
-        for s in 0..map.size() {
-            assert_eq!(rt; session.label(map, sheet, s, r)?, at(says, s));
+        for s in 0..desk.map.size() {
+            assert_eq!(rt; desk.label(s, r)?, at(says, s));
         }
-        assert_eq!(rt; session.verdict(map, sheet, r)?, at_all_starts(map, says));
+        assert_eq!(rt; desk.verdict(r)?, at_all_starts(desk.map, says));
     }
     Ok(())
 }
@@ -74,17 +66,15 @@ fn tells<M: Map>(
 // Marks the rows in order; after each, the reach and every word of the sheet are the model's.
 fn marks_all<M: Map>(
     rt: &impl Abort,
-    map: &M,
-    session: &mut Session,
-    sheet: &mut [u64],
+    desk: &mut Desk<'_, M, 20>,
     rows: &[Row; 16],
     facts: &[Says; 16],
 ) -> Result<(), Fail> {
     for (r, row) in (0..).zip(rows) {
-        let done = session.mark(map, sheet)?;
+        let done = desk.mark()?;
         assert_eq!(rt; done.row, r);
-        assert_eq!(rt; done.reach, reach(map, facts, *row));
-        assert!(rt; &*sheet == words(map, facts, r + 1).as_slice());
+        assert_eq!(rt; done.reach, reach(desk.map, facts, *row));
+        assert!(rt; desk.sheet == words(desk.map, facts, r + 1));
     }
     Ok(())
 }
@@ -92,11 +82,10 @@ fn marks_all<M: Map>(
 // The sheet, the reaches, the labels and the verdicts of sixteen rows.
 pub(crate) fn agrees<M: Map>(rt: &impl Abort, map: &M, rows: &[Row; 16]) -> Result<(), Fail> {
     let facts = all_rows(map, rows);
-    let mut sheet = [SPARE; 20];
-    let mut session = Session::open(map, &mut sheet)?;
-    assert!(rt; sheet == words(map, &facts, 0));
-    add_all(rt, map, &mut session, &sheet, rows)?;
-    assert!(rt; sheet == words(map, &facts, 0));
-    marks_all(rt, map, &mut session, &mut sheet, rows, &facts)?;
-    tells(rt, map, &session, &sheet, &facts)
+    let mut desk = Desk::open(map, [SPARE; 20])?;
+    assert!(rt; desk.sheet == words(map, &facts, 0));
+    add_all(rt, &mut desk, rows)?;
+    assert!(rt; desk.sheet == words(map, &facts, 0));
+    marks_all(rt, &mut desk, rows, &facts)?;
+    tells(rt, &desk, &facts)
 }

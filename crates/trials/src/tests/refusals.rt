@@ -1,4 +1,5 @@
 // Each refusal by its number, with all that is lent as it was.
+use crate::tests::desk::Desk;
 use crate::tests::four_states::{WORDS, eight_rows, four};
 use crate::tests::marks::SPARE;
 use crate::tests::witnesses::told;
@@ -29,43 +30,27 @@ fn number<T: Drop>(answer: Result<T, SessionFault>) -> Option<u8> {
 }
 
 // A session with eight rows and seven marks goes on as if nothing had been refused.
-fn goes_on<M: Map>(
-    rt: &impl Abort,
-    map: &M,
-    session: Session,
-    sheet: [u64; 5],
-) -> Result<(), Fail> {
-    let (mut session, mut sheet) = (session, sheet);
-    assert!(rt; sheet == SEVEN);
-    for s in 0..4 {
+fn goes_on<M: Map>(rt: &impl Abort, desk: Desk<'_, M, 5>) -> Result<(), Fail> {
+    let mut desk = desk;
+    assert!(rt; desk.sheet == SEVEN);
+    for (s, word) in (0..).zip(WORDS) {
         for r in 0..7 {
-            assert_eq!(rt;
-                session.label(map, &sheet, s, r)?,
-                (WORDS[s as usize] >> r) & 1 == 1
-            );
+            assert_eq!(rt; desk.label(s, r)?, (word >> r) & 1 == 1);
         }
     }
-    assert_eq!(rt; number(session.label(map, &sheet, 0, 7)), Some(22));
-    let done = session.mark(map, &mut sheet)?;
+    assert_eq!(rt; number(desk.label(0, 7)), Some(22));
+    let done = desk.mark()?;
     assert!(rt; done.row == 7 && done.reach == 0);
-    assert!(rt; sheet == [WORDS[0], WORDS[1], WORDS[2], WORDS[3], SPARE]);
-    assert_eq!(rt; number(session.mark(map, &mut sheet)), Some(20));
-    assert_eq!(rt; session.add(map, &sheet, Row::Next(7))?, 8);
+    assert!(rt; desk.sheet == [WORDS[0], WORDS[1], WORDS[2], WORDS[3], SPARE]);
+    assert_eq!(rt; number(desk.mark()), Some(20));
+    assert_eq!(rt; desk.add(Row::Next(7))?, 8);
     Ok(())
 }
 
 // A run from s for row r is refused by this number, and the tables are as they were.
-fn refuses_run<M: Map>(
-    rt: &impl Abort,
-    map: &M,
-    session: &Session,
-    sheet: &[u64],
-    s: u32,
-    r: u32,
-    expected: u8,
-) {
+fn refuses_run<M: Map>(rt: &impl Abort, desk: &Desk<'_, M, 5>, s: u32, r: u32, expected: u8) {
     let (mut work, mut run) = (OLD, OLD);
-    let answer = session.witness(map, sheet, s, r, &mut work, &mut run);
+    let answer = desk.witness(s, r, &mut work, &mut run);
     assert_eq!(rt; told(answer), Err((expected, None)));
     assert!(rt; work == OLD && run == OLD);
 }
@@ -105,22 +90,24 @@ fn a_short_sheet_to_open(rt: HostRuntime) {
 
 // Every call is refused where the sheet is too short.
 fn refuses_all<M: Map>(rt: &impl Abort, map: &M, session: &mut Session, sheet: &mut [u64]) {
+    let (mut work, mut run) = (OLD, OLD);
     assert_eq!(rt; number(session.add(map, sheet, Row::True)), Some(17));
     assert_eq!(rt; number(session.add(map, sheet, Row::Not(8))), Some(17));
     assert_eq!(rt; number(session.mark(map, sheet)), Some(17));
     assert_eq!(rt; number(session.label(map, sheet, 0, 0)), Some(17));
     assert_eq!(rt; number(session.verdict(map, sheet, 0)), Some(17));
-    refuses_run(rt, map, session, sheet, 0, 6, 17);
+    let answer = session.witness(map, sheet, 0, 6, &mut work, &mut run);
+    assert_eq!(rt; told(answer), Err((17, None)));
+    assert!(rt; work == OLD && run == OLD);
 }
 
 #[test]
 fn a_short_sheet(rt: HostRuntime) -> Result<(), Fail> {
     let rig = worked_example();
     let map = four(&rig);
-    let mut sheet = FIVE;
-    let mut session = eight_rows(&rt, &map, &mut sheet, 7)?;
-    refuses_all(&rt, &map, &mut session, &mut sheet[0..3]);
-    goes_on(&rt, &map, session, sheet)
+    let mut desk = eight_rows(&rt, &map, FIVE, 7)?;
+    refuses_all(&rt, &map, &mut desk.session, &mut desk.sheet[..3]);
+    goes_on(&rt, desk)
 }
 
 // Row number r of a full list: true, not true, true, and so on.
@@ -132,19 +119,14 @@ fn in_turn(r: u32) -> Row {
 }
 
 // Adds 64 rows, and then marks them.
-fn fill<M: Map>(
-    rt: &impl Abort,
-    map: &M,
-    session: &mut Session,
-    sheet: &mut [u64],
-) -> Result<(), Fail> {
+fn fill<M: Map>(rt: &impl Abort, desk: &mut Desk<'_, M, 5>) -> Result<(), Fail> {
     for r in 0..64 {
-        assert_eq!(rt; session.add(map, sheet, in_turn(r))?, r);
+        assert_eq!(rt; desk.add(in_turn(r))?, r);
     }
-    assert_eq!(rt; number(session.add(map, sheet, Row::True)), Some(18));
-    assert_eq!(rt; number(session.add(map, sheet, Row::Not(64))), Some(18));
+    assert_eq!(rt; number(desk.add(Row::True)), Some(18));
+    assert_eq!(rt; number(desk.add(Row::Not(64))), Some(18));
     for r in 0..64 {
-        assert_eq!(rt; session.mark(map, sheet)?.row, r);
+        assert_eq!(rt; desk.mark()?.row, r);
     }
     Ok(())
 }
@@ -153,16 +135,15 @@ fn fill<M: Map>(
 fn a_row_too_many(rt: HostRuntime) -> Result<(), Fail> {
     let rig = worked_example();
     let map = four(&rig);
-    let mut sheet = FIVE;
-    let mut session = Session::open(&map, &mut sheet)?;
-    fill(&rt, &map, &mut session, &mut sheet)?;
-    assert_eq!(rt; number(session.add(&map, &sheet, Row::True)), Some(18));
-    assert_eq!(rt; number(session.mark(&map, &mut sheet)), Some(20));
-    assert_eq!(rt; number(session.label(&map, &sheet, 3, 64)), Some(22));
-    assert!(rt; session.label(&map, &sheet, 3, 62)?);
-    assert!(rt; !session.label(&map, &sheet, 3, 63)?);
+    let mut desk = Desk::open(&map, FIVE)?;
+    fill(&rt, &mut desk)?;
+    assert_eq!(rt; number(desk.add(Row::True)), Some(18));
+    assert_eq!(rt; number(desk.mark()), Some(20));
+    assert_eq!(rt; number(desk.label(3, 64)), Some(22));
+    assert!(rt; desk.label(3, 62)?);
+    assert!(rt; !desk.label(3, 63)?);
     let word = 0x5555_5555_5555_5555;
-    assert!(rt; sheet == [word, word, word, word, SPARE]);
+    assert!(rt; desk.sheet == [word, word, word, word, SPARE]);
     Ok(())
 }
 
@@ -170,8 +151,7 @@ fn a_row_too_many(rt: HostRuntime) -> Result<(), Fail> {
 fn a_row_that_names_no_earlier_row(rt: HostRuntime) -> Result<(), Fail> {
     let rig = worked_example();
     let map = four(&rig);
-    let mut sheet = FIVE;
-    let mut session = eight_rows(&rt, &map, &mut sheet, 7)?;
+    let mut desk = eight_rows(&rt, &map, FIVE, 7)?;
     for row in [
         Row::Not(8),
         Row::Next(9),
@@ -180,25 +160,24 @@ fn a_row_that_names_no_earlier_row(rt: HostRuntime) -> Result<(), Fail> {
         Row::Until(u32::MAX, 0),
         Row::Until(0, 8),
     ] {
-        assert_eq!(rt; number(session.add(&map, &sheet, row)), Some(19));
+        assert_eq!(rt; number(desk.add(row)), Some(19));
     }
-    goes_on(&rt, &map, session, sheet)
+    goes_on(&rt, desk)
 }
 
 #[test]
 fn nothing_to_mark(rt: HostRuntime) -> Result<(), Fail> {
     let rig = worked_example();
     let map = four(&rig);
-    let mut sheet = FIVE;
-    let mut session = eight_rows(&rt, &map, &mut sheet, 8)?;
-    let before = sheet;
-    assert_eq!(rt; number(session.mark(&map, &mut sheet)), Some(20));
-    assert_eq!(rt; number(session.mark(&map, &mut sheet)), Some(20));
-    assert!(rt; sheet == before);
-    assert!(rt; session.label(&map, &sheet, 1, 7)?);
-    assert_eq!(rt; session.add(&map, &sheet, Row::Not(7))?, 8);
-    assert_eq!(rt; session.mark(&map, &mut sheet)?.row, 8);
-    assert!(rt; !session.label(&map, &sheet, 1, 8)?);
+    let mut desk = eight_rows(&rt, &map, FIVE, 8)?;
+    let before = desk.sheet;
+    assert_eq!(rt; number(desk.mark()), Some(20));
+    assert_eq!(rt; number(desk.mark()), Some(20));
+    assert!(rt; desk.sheet == before);
+    assert!(rt; desk.label(1, 7)?);
+    assert_eq!(rt; desk.add(Row::Not(7))?, 8);
+    assert_eq!(rt; desk.mark()?.row, 8);
+    assert!(rt; !desk.label(1, 8)?);
     Ok(())
 }
 
@@ -206,60 +185,56 @@ fn nothing_to_mark(rt: HostRuntime) -> Result<(), Fail> {
 fn no_such_state(rt: HostRuntime) -> Result<(), Fail> {
     let rig = worked_example();
     let map = four(&rig);
-    let mut sheet = FIVE;
-    let session = eight_rows(&rt, &map, &mut sheet, 7)?;
-    assert_eq!(rt; number(session.label(&map, &sheet, 4, 0)), Some(21));
-    assert_eq!(rt; number(session.label(&map, &sheet, u32::MAX, 64)), Some(21));
-    refuses_run(&rt, &map, &session, &sheet, 4, 6, 21);
-    refuses_run(&rt, &map, &session, &sheet, u32::MAX, 64, 21);
-    goes_on(&rt, &map, session, sheet)
+    let desk = eight_rows(&rt, &map, FIVE, 7)?;
+    assert_eq!(rt; number(desk.label(4, 0)), Some(21));
+    assert_eq!(rt; number(desk.label(u32::MAX, 64)), Some(21));
+    refuses_run(&rt, &desk, 4, 6, 21);
+    refuses_run(&rt, &desk, u32::MAX, 64, 21);
+    goes_on(&rt, desk)
 }
 
 #[test]
 fn not_marked(rt: HostRuntime) -> Result<(), Fail> {
     let rig = worked_example();
     let map = four(&rig);
-    let mut sheet = FIVE;
-    let session = eight_rows(&rt, &map, &mut sheet, 7)?;
+    let desk = eight_rows(&rt, &map, FIVE, 7)?;
     for r in [7, 8, 64, u32::MAX] {
-        assert_eq!(rt; number(session.label(&map, &sheet, 0, r)), Some(22));
-        assert_eq!(rt; number(session.verdict(&map, &sheet, r)), Some(22));
-        refuses_run(&rt, &map, &session, &sheet, 0, r, 22);
+        assert_eq!(rt; number(desk.label(0, r)), Some(22));
+        assert_eq!(rt; number(desk.verdict(r)), Some(22));
+        refuses_run(&rt, &desk, 0, r, 22);
     }
-    goes_on(&rt, &map, session, sheet)
+    goes_on(&rt, desk)
 }
 
 #[test]
 fn no_until(rt: HostRuntime) -> Result<(), Fail> {
     let rig = worked_example();
     let map = four(&rig);
-    let mut sheet = FIVE;
-    let session = eight_rows(&rt, &map, &mut sheet, 7)?;
+    let desk = eight_rows(&rt, &map, FIVE, 7)?;
     for r in 0..6 {
-        refuses_run(&rt, &map, &session, &sheet, 0, r, 23);
+        refuses_run(&rt, &desk, 0, r, 23);
     }
-    goes_on(&rt, &map, session, sheet)
+    goes_on(&rt, desk)
 }
 
 #[test]
 fn a_short_work_table(rt: HostRuntime) -> Result<(), Fail> {
     let rig = worked_example();
     let map = four(&rig);
-    let mut sheet = FIVE;
     let (mut work, mut run) = (OLD, OLD);
-    let session = eight_rows(&rt, &map, &mut sheet, 7)?;
-    let answer = session.witness(&map, &sheet, 0, 6, &mut work[0..3], &mut run);
+    let desk = eight_rows(&rt, &map, FIVE, 7)?;
+    let answer = desk.witness(0, 6, &mut work[0..3], &mut run);
     assert_eq!(rt; told(answer), Err((24, None)));
-    let answer = session.witness(&map, &sheet, 0, 6, &mut work[0..0], &mut run[0..0]);
+    let answer = desk.witness(0, 6, &mut work[0..0], &mut run[0..0]);
     assert_eq!(rt; told(answer), Err((24, None)));
     assert!(rt; work == OLD && run == OLD);
-    goes_on(&rt, &map, session, sheet)
+    goes_on(&rt, desk)
 }
 
 // There is no run from s for row 8, but the lengths of all states are told.
-fn no_run_from<M: Map>(rt: &impl Abort, map: &M, session: &Session, sheet: &[u64], s: u32) {
+fn no_run_from<M: Map>(rt: &impl Abort, desk: &Desk<'_, M, 5>, s: u32) {
     let (mut work, mut run) = (OLD, OLD);
-    let answer = session.witness(map, sheet, s, 8, &mut work, &mut run);
+    let answer = desk.witness(s, 8, &mut work, &mut run);
     assert_eq!(rt; told(answer), Err((25, None)));
     assert!(rt; work == [NONE, 1, NONE, 0, 75] && run == OLD);
 }
@@ -268,17 +243,16 @@ fn no_run_from<M: Map>(rt: &impl Abort, map: &M, session: &Session, sheet: &[u64
 fn no_run(rt: HostRuntime) -> Result<(), Fail> {
     let rig = worked_example();
     let map = four(&rig);
-    let mut sheet = FIVE;
-    let mut session = eight_rows(&rt, &map, &mut sheet, 8)?;
-    assert_eq!(rt; session.add(&map, &sheet, Row::Until(2, 5))?, 8);
-    let done = session.mark(&map, &mut sheet)?;
+    let mut desk = eight_rows(&rt, &map, FIVE, 8)?;
+    assert_eq!(rt; desk.add(Row::Until(2, 5))?, 8);
+    let done = desk.mark()?;
     assert!(rt; done.row == 8 && done.reach == 1);
-    let before = sheet;
-    no_run_from(&rt, &map, &session, &sheet, 0);
-    no_run_from(&rt, &map, &session, &sheet, 2);
-    assert!(rt; sheet == before);
-    assert_eq!(rt; number(session.mark(&map, &mut sheet)), Some(20));
-    assert_eq!(rt; session.add(&map, &sheet, Row::Not(8))?, 9);
+    let before = desk.sheet;
+    no_run_from(&rt, &desk, 0);
+    no_run_from(&rt, &desk, 2);
+    assert!(rt; desk.sheet == before);
+    assert_eq!(rt; number(desk.mark()), Some(20));
+    assert_eq!(rt; desk.add(Row::Not(8))?, 9);
     Ok(())
 }
 
@@ -286,15 +260,14 @@ fn no_run(rt: HostRuntime) -> Result<(), Fail> {
 fn a_short_run_table(rt: HostRuntime) -> Result<(), Fail> {
     let rig = worked_example();
     let map = four(&rig);
-    let mut sheet = FIVE;
     let (mut work, mut run) = (OLD, OLD);
-    let session = eight_rows(&rt, &map, &mut sheet, 7)?;
-    let answer = session.witness(&map, &sheet, 0, 6, &mut work, &mut run[0..2]);
+    let desk = eight_rows(&rt, &map, FIVE, 7)?;
+    let answer = desk.witness(0, 6, &mut work, &mut run[0..2]);
     assert_eq!(rt; told(answer), Err((26, Some(2))));
     assert!(rt; work == [2, 1, 3, 0, 75] && run == OLD);
     work = OLD;
-    let answer = session.witness(&map, &sheet, 3, 6, &mut work, &mut run[0..0]);
+    let answer = desk.witness(3, 6, &mut work, &mut run[0..0]);
     assert_eq!(rt; told(answer), Err((26, Some(0))));
     assert!(rt; work == [2, 1, 3, 0, 75] && run == OLD);
-    goes_on(&rt, &map, session, sheet)
+    goes_on(&rt, desk)
 }

@@ -1,11 +1,11 @@
 // Shortest runs, against the model.
+use crate::tests::desk::Desk;
 use crate::tests::marks::{SPARE, add_all};
 use crate::tests::model::{Says, all_rows, at, row_of, shortest};
 use calls::fault::SessionFault;
 use lengths::rounds::NONE;
 use map::Map;
 use map::refusal::Refusal;
-use session::held::Session;
 use std::process::Abort;
 use std::test::Fail;
 use stl::row::Row;
@@ -70,41 +70,38 @@ fn has_run<M: Map>(
 // What is told of a run from s for the row r, which is a until b.
 fn shows_run<M: Map>(
     rt: &impl Abort,
-    map: &M,
-    session: &Session,
-    sheet: &[u64],
+    desk: &Desk<'_, M, 20>,
     s: u32,
     r: u32,
     a: &Says,
     b: &Says,
 ) -> Result<(), Fail> {
-    let best = shortest(map, a, b);
+    let best = shortest(desk.map, a, b);
     let mut work = [OLD_WORK; 20];
     let mut run = [OLD_RUN; 20];
-    let answer = told(session.witness(map, sheet, s, r, &mut work, &mut run));
-    has_lengths(rt, map, &best, &work);
+    let answer = told(desk.witness(s, r, &mut work, &mut run));
+    has_lengths(rt, desk.map, &best, &work);
     let Some(length) = length_at(&best, s as usize) else {
         assert_eq!(rt; answer, Err((25, None)));
         assert!(rt; run == [OLD_RUN; 20]);
         return Ok(());
     };
     assert_eq!(rt; answer, Ok(length));
-    has_run(rt, map, &run, s, length, a, b)
+    has_run(rt, desk.map, &run, s, length, a, b)
 }
 
 // A session with the rows added and marked.
-fn marked<M: Map>(
+fn marked<'a, M: Map>(
     rt: &impl Abort,
-    map: &M,
-    sheet: &mut [u64],
+    map: &'a M,
     rows: &[Row; 16],
-) -> Result<Session, Fail> {
-    let mut session = Session::open(map, sheet)?;
-    add_all(rt, map, &mut session, sheet, rows)?;
-    for _ in 0..16 {
-        let _ = session.mark(map, sheet)?;
+) -> Result<Desk<'a, M, 20>, Fail> {
+    let mut desk = Desk::open(map, [SPARE; 20])?;
+    add_all(rt, &mut desk, rows)?;
+    for _ in rows {
+        desk.mark()?;
     }
-    Ok(session)
+    Ok(desk)
 }
 
 // The run of every until row from every state, which leaves the sheet as it was.
@@ -114,13 +111,12 @@ pub(crate) fn witnesses_agree<M: Map>(
     rows: &[Row; 16],
 ) -> Result<(), Fail> {
     let facts = all_rows(map, rows);
-    let mut sheet = [SPARE; 20];
-    let session = marked(rt, map, &mut sheet, rows)?;
+    let desk = marked(rt, map, rows)?;
     for (r, row) in (0..).zip(rows) {
         if let Row::Until(a, b) = *row {
             let (a, b) = (row_of(&facts, a), row_of(&facts, b));
             for s in 0..map.size() {
-                shows_run(rt, map, &session, &sheet, s, r, &a, &b)?;
+                shows_run(rt, &desk, s, r, &a, &b)?;
             }
         }
     }
