@@ -1,5 +1,5 @@
 // What a session refuses, each refusal once.
-use crate::rows::ready;
+use crate::rows::{Held, ready};
 use crate::show;
 use calls::fault::SessionFault;
 use listed::table::ListedMap;
@@ -65,17 +65,12 @@ fn refuse_rows<M: Map>(
 }
 
 // Labels and verdicts: 21 and 22.
-fn refuse_labels<M: Map>(
-    rt: &HostRuntime,
-    session: &Session,
-    map: &M,
-    sheet: &[u64],
-) -> io::Result<()> {
-    tried(rt, "The label of state 4.", session.label(map, sheet, 4, 6))?;
+fn refuse_labels<M: Map>(rt: &HostRuntime, held: &Held<'_, M>) -> io::Result<()> {
+    tried(rt, "The label of state 4.", held.label(4, 6))?;
     tried(
         rt,
         "The verdict of row 8, which is not marked.",
-        session.verdict(map, sheet, 8),
+        held.verdict(8),
     )
 }
 
@@ -87,51 +82,41 @@ fn say_tables(rt: &HostRuntime, work: &[u32; 4], run: &[u32; 2]) -> io::Result<(
 }
 
 // Witnesses: 21 to 24 leave both tables as they were.
-fn refuse_witnesses<M: Map>(
-    rt: &HostRuntime,
-    session: &Session,
-    map: &M,
-    sheet: &[u64],
-) -> io::Result<()> {
+fn refuse_witnesses<M: Map>(rt: &HostRuntime, held: &Held<'_, M>) -> io::Result<()> {
     let mut work = [9; 4];
     let mut run = [9; 2];
     tried(
         rt,
         "A run from state 4.",
-        session.witness(map, sheet, 4, 6, &mut work, &mut run),
+        held.witness(4, 6, &mut work, &mut run),
     )?;
     tried(
         rt,
         "A run for row 8, which is not marked.",
-        session.witness(map, sheet, 0, 8, &mut work, &mut run),
+        held.witness(0, 8, &mut work, &mut run),
     )?;
     tried(
         rt,
         "A run for row 7, a next.",
-        session.witness(map, sheet, 0, 7, &mut work, &mut run),
+        held.witness(0, 7, &mut work, &mut run),
     )?;
     let short = &mut work[0..3];
     tried(
         rt,
         "A run with a work table of three entries.",
-        session.witness(map, sheet, 0, 6, short, &mut run),
+        held.witness(0, 6, short, &mut run),
     )?;
     say_tables(rt, &work, &run)
 }
 
 // Witnesses: 26 leaves the work table filled.
-fn refuse_room<M: Map>(
-    rt: &HostRuntime,
-    session: &Session,
-    map: &M,
-    sheet: &[u64],
-) -> io::Result<()> {
+fn refuse_room<M: Map>(rt: &HostRuntime, held: &Held<'_, M>) -> io::Result<()> {
     let mut work = [9; 4];
     let mut run = [9; 2];
     tried(
         rt,
         "A run from state 0 with a run table of two entries.",
-        session.witness(map, sheet, 0, 6, &mut work, &mut run),
+        held.witness(0, 6, &mut work, &mut run),
     )?;
     say_tables(rt, &work, &run)
 }
@@ -163,8 +148,13 @@ pub(crate) fn show_each(rt: &HostRuntime) -> io::Result<()> {
         Err(fault) => return show::fault(rt, fault),
     };
     refuse_rows(rt, &mut session, &map, &mut sheet)?;
-    refuse_labels(rt, &session, &map, &sheet)?;
-    refuse_witnesses(rt, &session, &map, &sheet)?;
-    refuse_room(rt, &session, &map, &sheet)?;
+    let held = Held {
+        session: &session,
+        map: &map,
+        sheet: &sheet,
+    };
+    refuse_labels(rt, &held)?;
+    refuse_witnesses(rt, &held)?;
+    refuse_room(rt, &held)?;
     refuse_for_want_of_a_run(rt, &map)
 }

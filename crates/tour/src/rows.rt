@@ -8,6 +8,34 @@ use session::held::Session;
 use std::{fmt, io};
 use stl::row::Row;
 
+// A session with the map and the sheet that its calls are lent.
+#[derive(Drop)]
+pub(crate) struct Held<'a, M> {
+    pub(crate) session: &'a Session,
+    pub(crate) map: &'a M,
+    pub(crate) sheet: &'a [u64],
+}
+
+impl<M: Map> Held<'_, M> {
+    pub(crate) fn label(&self, s: u32, r: u32) -> Result<bool, SessionFault> {
+        self.session.label(self.map, self.sheet, s, r)
+    }
+
+    pub(crate) fn verdict(&self, r: u32) -> Result<bool, SessionFault> {
+        self.session.verdict(self.map, self.sheet, r)
+    }
+
+    pub(crate) fn witness(
+        &self,
+        s: u32,
+        r: u32,
+        work: &mut [u32],
+        run: &mut [u32],
+    ) -> Result<u32, SessionFault> {
+        self.session.witness(self.map, self.sheet, s, r, work, run)
+    }
+}
+
 // A session on the map with all the rows added and marked.
 pub(crate) fn ready<M: Map>(
     map: &M,
@@ -63,20 +91,12 @@ fn mark_one<M: Map>(
 }
 
 // The rows whose labels are on at s.
-fn labels_at<M: Map>(
-    rt: &HostRuntime,
-    session: &Session,
-    map: &M,
-    sheet: &[u64],
-    s: u32,
-) -> io::Result<()> {
+fn labels_at<M: Map>(rt: &HostRuntime, held: &Held<'_, M>, s: u32) -> io::Result<()> {
     print!(rt; "State {s} has the labels of rows")?;
-    for r in 0..8 {
-        if let Ok(true) = session.label(map, sheet, s, r) {
-            print!(rt; " {r}")?;
-        }
+    for r in (0..8).filter(|r| held.label(s, *r) == Ok(true)) {
+        print!(rt; " {r}")?;
     }
-    let word = sheet.get(s as usize).copied().unwrap_or(0);
+    let word = held.sheet.get(s as usize).copied().unwrap_or(0);
     println!(rt; ": word {word}.")
 }
 
@@ -107,8 +127,13 @@ pub(crate) fn hold_the_rows(rt: &HostRuntime) -> io::Result<()> {
     };
     println!(rt; "A row says yes when every start satisfies it.")?;
     mark_each(rt, &mut session, &map, &mut sheet, &rig.rows)?;
+    let held = Held {
+        session: &session,
+        map: &map,
+        sheet: &sheet,
+    };
     for s in 0..4 {
-        labels_at(rt, &session, &map, &sheet, s)?;
+        labels_at(rt, &held, s)?;
     }
     Ok(())
 }

@@ -1,23 +1,16 @@
 // Shortest runs on the four-state map.
-use crate::rows::ready;
+use crate::rows::{Held, ready};
 use crate::show;
 use listed::table::ListedMap;
 use map::Map;
 use rig::worked_example;
-use session::held::Session;
 use std::io;
 
 // Steps a shortest run for row 6 from s.
-fn step_from<M: Map>(
-    rt: &HostRuntime,
-    session: &Session,
-    map: &M,
-    sheet: &[u64],
-    s: u32,
-) -> io::Result<()> {
+fn step_from<M: Map>(rt: &HostRuntime, held: &Held<'_, M>, s: u32) -> io::Result<()> {
     let mut work = [0; 4];
     let mut run = [0; 4];
-    let moves = match session.witness(map, sheet, s, 6, &mut work, &mut run) {
+    let moves = match held.witness(s, 6, &mut work, &mut run) {
         Ok(moves) => moves,
         Err(fault) => return show::fault(rt, fault),
     };
@@ -38,8 +31,13 @@ pub(crate) fn step_the_runs(rt: &HostRuntime) -> io::Result<()> {
         Ok(session) => session,
         Err(fault) => return show::fault(rt, fault),
     };
+    let held = Held {
+        session: &session,
+        map: &map,
+        sheet: &sheet,
+    };
     for s in 0..4 {
-        step_from(rt, &session, &map, &sheet, s)?;
+        step_from(rt, &held, s)?;
     }
     Ok(())
 }
