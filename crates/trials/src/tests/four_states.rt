@@ -39,8 +39,8 @@ pub(crate) fn eight_rows<'a, M: Map, const N: usize>(
     count: u32,
 ) -> Result<Desk<'a, M, N>, Fail> {
     let mut desk = Desk::open(map, sheet)?;
-    for (r, row) in (0..).zip(EIGHT) {
-        assert_eq!(rt; desk.add(row)?, r);
+    for (r, row) in (0..).zip(&EIGHT) {
+        assert_eq!(rt; desk.add(*row)?, r);
     }
     for r in 0..count {
         assert_eq!(rt; desk.mark()?.row, r);

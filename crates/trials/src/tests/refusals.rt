@@ -105,9 +105,21 @@ fn refuses_all<M: Map>(rt: &impl Abort, map: &M, session: &mut Session, sheet: &
 fn a_short_sheet(rt: HostRuntime) -> Result<(), Fail> {
     let rig = worked_example();
     let map = four(&rig);
-    let mut desk = eight_rows(&rt, &map, FIVE, 7)?;
-    refuses_all(&rt, &map, &mut desk.session, &mut desk.sheet[..3]);
-    goes_on(&rt, desk)
+    let desk = eight_rows(&rt, &map, FIVE, 7)?;
+    let Desk {
+        map,
+        mut sheet,
+        mut session,
+    } = desk;
+    refuses_all(&rt, map, &mut session, &mut sheet[..3]);
+    goes_on(
+        &rt,
+        Desk {
+            map,
+            sheet,
+            session,
+        },
+    )
 }
 
 // Row number r of a full list: true, not true, true, and so on.
