@@ -31,21 +31,19 @@ pub(crate) fn four(rig: &Rig) -> ListedMap<'_, SwitchLook> {
     ListedMap::new(&rig.looks, &rig.starts, &rig.firsts, &rig.targets)
 }
 
-// A session with the eight rows, of which the first `count` are marked, on a sheet that held this.
-pub(crate) fn eight_rows<'a, M: Map, const N: usize>(
+// Adds the eight rows, and marks the first `count`.
+pub(crate) fn eight_rows<M: Map, const N: usize>(
     rt: &impl Abort,
-    map: &'a M,
-    sheet: [u64; N],
+    desk: &mut Desk<'_, M, N>,
     count: u32,
-) -> Result<Desk<'a, M, N>, Fail> {
-    let mut desk = Desk::open(map, sheet)?;
+) -> Result<(), Fail> {
     for (r, row) in (0..).zip(&EIGHT) {
         assert_eq!(rt; desk.add(*row)?, r);
     }
     for r in 0..count {
         assert_eq!(rt; desk.mark()?.row, r);
     }
-    Ok(desk)
+    Ok(())
 }
 
 #[test]
@@ -58,7 +56,8 @@ fn the_four_states_and_the_model(rt: HostRuntime) -> Result<(), Fail> {
 fn labels_and_reaches(rt: HostRuntime) -> Result<(), Fail> {
     let rig = worked_example();
     let map = four(&rig);
-    let mut desk = eight_rows(&rt, &map, [9; 4], 6)?;
+    let mut desk = Desk::open(&map, [9; 4])?;
+    eight_rows(&rt, &mut desk, 6)?;
     let done = desk.mark()?;
     assert!(rt; done.row == 6 && done.reach == 3);
     let done = desk.mark()?;
@@ -71,7 +70,8 @@ fn labels_and_reaches(rt: HostRuntime) -> Result<(), Fail> {
 fn verdicts(rt: HostRuntime) -> Result<(), Fail> {
     let rig = worked_example();
     let map = four(&rig);
-    let desk = eight_rows(&rt, &map, [9; 4], 8)?;
+    let mut desk = Desk::open(&map, [9; 4])?;
+    eight_rows(&rt, &mut desk, 8)?;
     let expected = [true, false, false, true, true, false, true, false];
     for (r, holds) in (0..).zip(expected) {
         assert_eq!(rt; desk.verdict(r)?, holds);
@@ -83,7 +83,8 @@ fn verdicts(rt: HostRuntime) -> Result<(), Fail> {
 fn runs(rt: HostRuntime) -> Result<(), Fail> {
     let rig = worked_example();
     let map = four(&rig);
-    let desk = eight_rows(&rt, &map, [9; 4], 8)?;
+    let mut desk = Desk::open(&map, [9; 4])?;
+    eight_rows(&rt, &mut desk, 8)?;
     let mut work = [5; 5];
     let mut run = [6; 5];
     assert_eq!(rt; told(desk.witness(0, 6, &mut work, &mut run)), Ok(2));
@@ -99,7 +100,8 @@ fn runs(rt: HostRuntime) -> Result<(), Fail> {
 fn a_map_without_starts_says_yes(rt: HostRuntime) -> Result<(), Fail> {
     let rig = worked_example();
     let map = ListedMap::new(&rig.looks, &[0; 4], &rig.firsts, &rig.targets);
-    let desk = eight_rows(&rt, &map, [9; 4], 8)?;
+    let mut desk = Desk::open(&map, [9; 4])?;
+    eight_rows(&rt, &mut desk, 8)?;
     for r in 0..8 {
         assert!(rt; desk.verdict(r)?);
     }

@@ -105,7 +105,8 @@ fn refuses_all<M: Map>(rt: &impl Abort, map: &M, session: &mut Session, sheet: &
 fn a_short_sheet(rt: HostRuntime) -> Result<(), Fail> {
     let rig = worked_example();
     let map = four(&rig);
-    let desk = eight_rows(&rt, &map, FIVE, 7)?;
+    let mut desk = Desk::open(&map, FIVE)?;
+    eight_rows(&rt, &mut desk, 7)?;
     let Desk {
         map,
         mut sheet,
@@ -163,7 +164,8 @@ fn a_row_too_many(rt: HostRuntime) -> Result<(), Fail> {
 fn a_row_that_names_no_earlier_row(rt: HostRuntime) -> Result<(), Fail> {
     let rig = worked_example();
     let map = four(&rig);
-    let mut desk = eight_rows(&rt, &map, FIVE, 7)?;
+    let mut desk = Desk::open(&map, FIVE)?;
+    eight_rows(&rt, &mut desk, 7)?;
     for row in [
         Row::Not(8),
         Row::Next(9),
@@ -181,7 +183,8 @@ fn a_row_that_names_no_earlier_row(rt: HostRuntime) -> Result<(), Fail> {
 fn nothing_to_mark(rt: HostRuntime) -> Result<(), Fail> {
     let rig = worked_example();
     let map = four(&rig);
-    let mut desk = eight_rows(&rt, &map, FIVE, 8)?;
+    let mut desk = Desk::open(&map, FIVE)?;
+    eight_rows(&rt, &mut desk, 8)?;
     let before = desk.sheet;
     assert_eq!(rt; number(desk.mark()), Some(20));
     assert_eq!(rt; number(desk.mark()), Some(20));
@@ -197,7 +200,8 @@ fn nothing_to_mark(rt: HostRuntime) -> Result<(), Fail> {
 fn no_such_state(rt: HostRuntime) -> Result<(), Fail> {
     let rig = worked_example();
     let map = four(&rig);
-    let desk = eight_rows(&rt, &map, FIVE, 7)?;
+    let mut desk = Desk::open(&map, FIVE)?;
+    eight_rows(&rt, &mut desk, 7)?;
     assert_eq!(rt; number(desk.label(4, 0)), Some(21));
     assert_eq!(rt; number(desk.label(u32::MAX, 64)), Some(21));
     refuses_run(&rt, &desk, 4, 6, 21);
@@ -209,7 +213,8 @@ fn no_such_state(rt: HostRuntime) -> Result<(), Fail> {
 fn not_marked(rt: HostRuntime) -> Result<(), Fail> {
     let rig = worked_example();
     let map = four(&rig);
-    let desk = eight_rows(&rt, &map, FIVE, 7)?;
+    let mut desk = Desk::open(&map, FIVE)?;
+    eight_rows(&rt, &mut desk, 7)?;
     for r in [7, 8, 64, u32::MAX] {
         assert_eq!(rt; number(desk.label(0, r)), Some(22));
         assert_eq!(rt; number(desk.verdict(r)), Some(22));
@@ -222,7 +227,8 @@ fn not_marked(rt: HostRuntime) -> Result<(), Fail> {
 fn no_until(rt: HostRuntime) -> Result<(), Fail> {
     let rig = worked_example();
     let map = four(&rig);
-    let desk = eight_rows(&rt, &map, FIVE, 7)?;
+    let mut desk = Desk::open(&map, FIVE)?;
+    eight_rows(&rt, &mut desk, 7)?;
     for r in 0..6 {
         refuses_run(&rt, &desk, 0, r, 23);
     }
@@ -234,7 +240,8 @@ fn a_short_work_table(rt: HostRuntime) -> Result<(), Fail> {
     let rig = worked_example();
     let map = four(&rig);
     let (mut work, mut run) = (OLD, OLD);
-    let desk = eight_rows(&rt, &map, FIVE, 7)?;
+    let mut desk = Desk::open(&map, FIVE)?;
+    eight_rows(&rt, &mut desk, 7)?;
     let answer = desk.witness(0, 6, &mut work[0..3], &mut run);
     assert_eq!(rt; told(answer), Err((24, None)));
     let answer = desk.witness(0, 6, &mut work[0..0], &mut run[0..0]);
@@ -255,7 +262,8 @@ fn no_run_from<M: Map>(rt: &impl Abort, desk: &Desk<'_, M, 5>, s: u32) {
 fn no_run(rt: HostRuntime) -> Result<(), Fail> {
     let rig = worked_example();
     let map = four(&rig);
-    let mut desk = eight_rows(&rt, &map, FIVE, 8)?;
+    let mut desk = Desk::open(&map, FIVE)?;
+    eight_rows(&rt, &mut desk, 8)?;
     assert_eq!(rt; desk.add(Row::Until(2, 5))?, 8);
     let done = desk.mark()?;
     assert!(rt; done.row == 8 && done.reach == 1);
@@ -273,7 +281,8 @@ fn a_short_run_table(rt: HostRuntime) -> Result<(), Fail> {
     let rig = worked_example();
     let map = four(&rig);
     let (mut work, mut run) = (OLD, OLD);
-    let desk = eight_rows(&rt, &map, FIVE, 7)?;
+    let mut desk = Desk::open(&map, FIVE)?;
+    eight_rows(&rt, &mut desk, 7)?;
     let answer = desk.witness(0, 6, &mut work, &mut run[0..2]);
     assert_eq!(rt; told(answer), Err((26, Some(2))));
     assert!(rt; work == [2, 1, 3, 0, 75] && run == OLD);
