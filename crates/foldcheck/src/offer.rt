@@ -7,7 +7,7 @@ ghost use Rattle.sharing.specs.Shares.{Share};
 
 use crate::accepted::Accepted;
 use crate::fault::FoldFault;
-use crate::questions::{Question, lowest_no};
+use crate::questions::Folding;
 use look::Look;
 use map::Map;
 
@@ -36,31 +36,8 @@ impl<'a> Offered<'a> {
         ensures verdict { Decided F.L.Look.sign F.L.Look.same (F.Map.meaning full.now) (G.Map.meaning folded.now) self.entry.table.now (refused_with result) }
         ensures share { OnOk result (Share (structure F.L.Look.sign (F.Map.meaning full.now)) (structure F.L.Look.sign (G.Map.meaning folded.now)) (class_of self.entry.table.now)) }
     {
-        let entries = self.table.len();
-        if entries != full.size() as usize {
-            return Err(FoldFault::WrongLength);
-        }
-        if let Some(s) = lowest_no(Question::Class, full, folded, self.table) {
-            return Err(FoldFault::NoClass(s));
-        }
-        if let Some(s) = lowest_no(Question::Alike, full, folded, self.table) {
-            return Err(FoldFault::OtherLook(s));
-        }
-        if let Some(s) = lowest_no(Question::Forth, full, folded, self.table) {
-            return Err(FoldFault::MoveLost(s));
-        }
-        if let Some(s) = lowest_no(Question::Back, full, folded, self.table) {
-            return Err(FoldFault::MoveAdded(s));
-        }
-        if let Some(s) = lowest_no(Question::Start, full, folded, self.table) {
-            return Err(FoldFault::StartLost(s));
-        }
-        if let Some(d) = lowest_no(Question::Started, full, folded, self.table) {
-            return Err(FoldFault::StartAdded(d));
-        }
-        if let Some(d) = lowest_no(Question::Onto, full, folded, self.table) {
-            return Err(FoldFault::NotAClass(d));
-        }
+        let fold = Folding::new(full, folded, self.table).ok_or(FoldFault::WrongLength)?;
+        fold.ask()?;
         Ok(Accepted { table: self.table })
     }
 }
