@@ -1,7 +1,7 @@
 -- A chained table, entry by entry, and what it folds. Assumes nothing.
 use Rattle.std.proofs.Common.{◌≡◌, ℕ, ◌+◌, ◌<◌, Bool, true, List, [], ◌∷◌, ◌++◌, length, get_or, take, set, Ok, Err, Result, sym, ◌∙◌, subst, ap₂, arith}
 use lib.ListN.{length-map}
-use Rattle.std.proofs.lemmas.List.{take_more, take_more_set, take_all}
+use Rattle.std.proofs.lemmas.List.{take_more, take_more_set}
 use Rattle.map.specs.Meaning.{structure}
 use Rattle.sharing.proofs.Chains.{chained_at, joined, folds_stand}
 use Rattle.sharing.specs.Accepts.{class_of, Accepts}
@@ -17,10 +17,6 @@ module _ (first second out : List ℕ) where
       take_more_set out i _ k
       ∙ ap₂ (λ xs x. xs ++ (x ∷ [])) e (sym (chained_at first second i h))
       ∙ sym (take_more (chained first second) i 0 (omega (arith, length-map first (class_of second))))
-
-  -- all entries
-  pub chained_all : (i : ℕ) → length first ≡ i → length out ≡ i → take i out ≡ take i (chained first second) → out ≡ chained first second
-  chained_all i e f h = sym (take_all i out (omega arith)) ∙ h ∙ take_all i (chained first second) (omega (arith, length-map first (class_of second)))
 
 -- two accepted tables, chained
 pub joins : {L : Type 0} (sign : L → ℕ → Bool) (same : L → L → Bool) → ((a b c : L) → same a b ≡ true → same b c ≡ true → same a c ≡ true) → ((a b : L) → same a b ≡ true → (k : ℕ) → sign a k ≡ sign b k) →
