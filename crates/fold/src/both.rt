@@ -55,6 +55,8 @@ fn through(fold: &Accepted<'_>, asked: Call) -> Call
     }
 }
 
+// A struct of the fold and both sides was tried too, but its caller learns nothing of a reference that lies two structs deep.
+
 // Makes the call on both sessions, and gives both answers. After any list of calls made on both, the fold accepted for the two maps,
 // a witness lent run tables of one length and work tables that both suffice or both do not: the answers are the same.
 pub fn perform_both<F: Map, G: Map<L = F::L>>(
