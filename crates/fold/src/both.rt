@@ -16,7 +16,8 @@ use look::Look;
 use map::Map;
 use session::held::Session;
 
-// A session on its map, with the tables that are lent to its calls.
+// A session on its map, with the tables that are lent to its calls. A struct of the fold and both sides was tried too, but its caller
+// learns nothing of a reference that lies two structs deep.
 #[derive(Drop)]
 pub struct Side<'a, M> {
     pub map: &'a M,
@@ -54,8 +55,6 @@ fn through(fold: &Accepted<'_>, asked: Call) -> Call
         other => other,
     }
 }
-
-// A struct of the fold and both sides was tried too, but its caller learns nothing of a reference that lies two structs deep.
 
 // Makes the call on both sessions, and gives both answers. After any list of calls made on both, the fold accepted for the two maps,
 // a witness lent run tables of one length and work tables that both suffice or both do not: the answers are the same.

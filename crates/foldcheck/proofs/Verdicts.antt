@@ -1,11 +1,12 @@
 -- The first no of a fold, question by question; there is one verdict. Assumes nothing.
 use Rattle.std.proofs.Common.{◌≡◌, ℕ, ◌+◌, ◌<◌, ◌≤◌, Bool, true, cond, eqb, ◌⊎◌, List, length, Some, None, Option, Decides, false, true≢false, sym, refl, ap, ◌∙◌, subst, inl, inr, arith}
 use Rattle.std.proofs.lemmas.Bool.{cases_lt}
+use Rattle.std.specs.Option.{unwrap_or}
 use Rattle.map.specs.Meaning.{Meaning}
 use Rattle.sharing.specs.Accepts.{Accepts}
 use Rattle.foldcheck.specs.Faults.{refusal}
 use Rattle.foldcheck.specs.Questions.{LowestNo}
-use Rattle.foldcheck.specs.Verdicts.{carried_state, Before, Yes, Asked, FirstNo, Judges, Decided}
+use Rattle.foldcheck.specs.Verdicts.{Before, Yes, Asked, FirstNo, Judges, Decided}
 use Rattle.foldcheck.specs.declared.fault.FoldFault.{FoldFault}
 use Rattle.foldcheck.specs.declared.fault.FoldFault.TheVariants.{WrongLength, NoClass, OtherLook, MoveLost, MoveAdded, StartLost, StartAdded, NotAClass}
 
@@ -14,7 +15,7 @@ abbrev pub number : FoldFault → ℕ
 number f = (refusal f).number
 
 abbrev pub place : FoldFault → ℕ
-place f = carried_state (refusal f).carried
+place f = unwrap_or (refusal f).carried 0
 
 -- the fault of a number at a state
 abbrev pub fault : ℕ → ℕ → FoldFault

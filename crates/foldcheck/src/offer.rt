@@ -1,6 +1,7 @@
 // Offered folds, and their check.
 ghost use Rattle.std.specs.Prelude.{◌≡◌, IfOk, OnOk};
-ghost use Rattle.foldcheck.specs.Verdicts.{refused_with, Decided};
+ghost use Rattle.std.specs.Result.{result_err};
+ghost use Rattle.foldcheck.specs.Verdicts.{Decided};
 ghost use Rattle.map.specs.Meaning.{structure};
 ghost use Rattle.sharing.specs.Accepts.{class_of};
 ghost use Rattle.sharing.specs.Shares.{Share};
@@ -33,7 +34,7 @@ impl<'a> Offered<'a> {
         folded: &G,
     ) -> Result<Accepted<'a>, FoldFault>
         ensures table { IfOk result (λ a. a.table.now ≡ self.entry.table.now) }
-        ensures verdict { Decided F.L.Look.sign F.L.Look.same (F.Map.meaning full.now) (G.Map.meaning folded.now) self.entry.table.now (refused_with result) }
+        ensures verdict { Decided F.L.Look.sign F.L.Look.same (F.Map.meaning full.now) (G.Map.meaning folded.now) self.entry.table.now (result_err result) }
         ensures share { OnOk result (Share (structure F.L.Look.sign (F.Map.meaning full.now)) (structure F.L.Look.sign (G.Map.meaning folded.now)) (class_of self.entry.table.now)) }
     {
         let fold = Folding::new(full, folded, self.table).ok_or(FoldFault::WrongLength)?;

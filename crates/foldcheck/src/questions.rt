@@ -1,7 +1,8 @@
 // The questions that are asked of each state.
 ghost use Rattle.std.specs.Prelude.{◌≡◌, ℕ, ◌<◌, true, length, Some, None, Decides, MatchOption, MatchResult};
+ghost use Rattle.std.specs.Result.{result_err};
 ghost use Rattle.foldcheck.specs.Questions.{MovesInto, LowestNo};
-ghost use Rattle.foldcheck.specs.Verdicts.{refused_with, Decided};
+ghost use Rattle.foldcheck.specs.Verdicts.{Decided};
 ghost use Rattle.map.specs.Meaning.{structure};
 ghost use Rattle.sharing.specs.Accepts.{class_of, HasClass, LooksAlike, MovesForth, MovesBack, StartsForth, StartsBack, IsClass};
 
@@ -126,7 +127,7 @@ impl<'a, F: Map, G: Map<L = F::L>> Folding<'a, F, G> {
 
     // Asks each question of all states before the next; the first no decides.
     pub(crate) fn ask(&self) -> Result<(), FoldFault>
-        ensures { Decided F.L.Look.sign F.L.Look.same (F.Map.meaning self.now.full.now) (G.Map.meaning self.now.folded.now) self.now.classes.now (refused_with result) }
+        ensures { Decided F.L.Look.sign F.L.Look.same (F.Map.meaning self.now.full.now) (G.Map.meaning self.now.folded.now) self.now.classes.now (result_err result) }
     {
         let states = self.full.size();
         let classes = self.folded.size();
