@@ -1,12 +1,10 @@
 -- The label that is given through a fold. Assumes nothing.
-use Rattle.std.proofs.Common.{◌≡◌, ℕ, ◌<◌, ◌≤◌, Bool, true, false, cond, ◌&&◌, ltb, leb, List, [], ◌∷◌, length, Some, None, Ok, Err, Option, Result, sym, refl, ap, ◌∙◌, subst, ⊎_elim, arith}
-use Rattle.std.proofs.lemmas.Option.{slice_get-get_or, slice_get_past}
-use Rattle.std.proofs.lemmas.Bool.{cases_lt, cond-true, cond-false, le-ltb, lt-ltb, le-leb, and_from}
-use Rattle.std.specs.List.{slice_get}
+use Rattle.std.proofs.Common.{◌≡◌, ℕ, ◌≤◌, Bool, true, false, cond, ◌&&◌, ltb, leb, List, [], ◌∷◌, length, Some, None, Ok, Err, Option, Result, refl, ap, ◌∙◌, arith}
+use Rattle.std.proofs.lemmas.Bool.{le-ltb, lt-ltb, le-leb, and_from}
 use Rattle.calls.proofs.Carried.{then}
 use Rattle.calls.proofs.OneMap.{all_right}
 use Rattle.calls.proofs.Unique.{decided_unique}
-use Rattle.calls.specs.Answers.{State, Grants, Decided, questions}
+use Rattle.calls.specs.Answers.{State, Grants, Decided}
 use Rattle.calls.specs.Effects.{alone, lent, Gives}
 use Rattle.calls.specs.declared.call.Answer.TheVariants as answer
 use Rattle.calls.specs.declared.call.Call.TheVariants as call
@@ -14,7 +12,6 @@ use Rattle.calls.specs.declared.fault.SessionFault.{SessionFault}
 use Rattle.calls.specs.declared.fault.SessionFault.TheVariants.{ShortSheet, NoSuchState, NotMarked}
 use Rattle.lengths.specs.Sheets.{label_of, by_sheet}
 use Rattle.map.proofs.Asked.{passes}
-use Rattle.map.proofs.Count.{never_none}
 use Rattle.map.proofs.Moves.{well_formed}
 use Rattle.map.specs.Meaning.{Meaning, Bounded, structure}
 use Rattle.map.specs.Questions.{ask, first_no}
@@ -23,24 +20,8 @@ use Rattle.sharing.proofs.Chains.{folds}
 use Rattle.sharing.specs.Accepts.{class_of}
 use Rattle.sharing.specs.Through.{read}
 use Rattle.stl.proofs.Folds.{both}
-use Rattle.stl.specs.Formulas.{top, formulas}
-use Rattle.stl.specs.Iff.{◌⇔◌}
 use Rattle.stl.specs.Structures.{Structure}
 use Rattle.fold.specs.Asking.{classed, ask_questions, granted, asked, SpeaksOfFull}
-
--- what a look into the table gives
-pub read_some : (table : List ℕ) (s d : ℕ) → Some d ≡ slice_get table s → d ≡ read table s
-read_some table s d e = ⊎_elim
-    (λ h. let at : Some d ≡ Some (class_of table s) = e ∙ slice_get-get_or table s 0 h in
-    let same : d ≡ class_of table s = cc in same ∙ sym (cond-true (ltb s (length table)) (class_of table s) 4294967295 (lt-ltb s (length table) h)))
-    (λ h. never_none d (e ∙ slice_get_past table s h))
-    (cases_lt s (length table))
-
-pub read_none : (table : List ℕ) (s : ℕ) → None ≡ slice_get table s → 4294967295 ≡ read table s
-read_none table s e = ⊎_elim
-    (λ h. never_none (class_of table s) (sym (e ∙ slice_get-get_or table s 0 h)))
-    (λ h. sym (cond-false (ltb s (length table)) (class_of table s) 4294967295 (le-ltb s (length table) h)))
-    (cases_lt s (length table))
 
 -- what is read through the table is a state where s has a class that is one
 read_there : (table : List ℕ) (n s : ℕ) → n ≤ 4294967295 → ltb (read table s) n ≡ classed table n s

@@ -1,9 +1,9 @@
 -- A chained table, entry by entry, and what it folds. Assumes nothing.
 use Rattle.std.proofs.Common.{◌≡◌, ℕ, ◌+◌, ◌<◌, Bool, true, List, [], ◌∷◌, ◌++◌, length, get_or, take, set, Ok, Err, Result, sym, ◌∙◌, subst, ap₂, arith}
 use lib.ListN.{length-map}
-use Rattle.std.proofs.lemmas.List.{take_more, take_more_set, take_all}
+use Rattle.std.proofs.lemmas.List.{get_or-map, take_more, take_more_set}
 use Rattle.map.specs.Meaning.{structure}
-use Rattle.sharing.proofs.Chains.{chained_at, joined, folds_stand}
+use Rattle.sharing.proofs.Chains.{joined, folds_stand}
 use Rattle.sharing.specs.Accepts.{class_of, Accepts}
 use Rattle.sharing.specs.Chains.{chained}
 use Rattle.sharing.specs.Shares.{Share}
@@ -15,12 +15,8 @@ module _ (first second out : List ℕ) where
   pub chained_more : (i : ℕ) → i < length first → i < length out → take i out ≡ take i (chained first second) → take (i + 1) (set out i (get_or second (get_or first i 0) 0)) ≡ take (i + 1) (chained first second)
   chained_more i h k e =
       take_more_set out i _ k
-      ∙ ap₂ (λ xs x. xs ++ (x ∷ [])) e (sym (chained_at first second i h))
+      ∙ ap₂ (λ xs x. xs ++ (x ∷ [])) e (sym (get_or-map (class_of second) first i 0 0 h))
       ∙ sym (take_more (chained first second) i 0 (omega (arith, length-map first (class_of second))))
-
-  -- all entries
-  pub chained_all : (i : ℕ) → length first ≡ i → length out ≡ i → take i out ≡ take i (chained first second) → out ≡ chained first second
-  chained_all i e f h = sym (take_all i out (omega arith)) ∙ h ∙ take_all i (chained first second) (omega (arith, length-map first (class_of second)))
 
 -- two accepted tables, chained
 pub joins : {L : Type 0} (sign : L → ℕ → Bool) (same : L → L → Bool) → ((a b c : L) → same a b ≡ true → same b c ≡ true → same a c ≡ true) → ((a b : L) → same a b ≡ true → (k : ℕ) → sign a k ≡ sign b k) →

@@ -1,23 +1,26 @@
 -- Calls made on both sessions, one at a time. Assumes nothing.
 use Rattle.std.proofs.Common.{◌≡◌, ℕ, ◌+◌, ◌<◌, ◌≤◌, List, [], ◌∷◌, ◌++◌, map, length, get_or, take, drop, set, sym, refl, ap, ◌∙◌, subst, arith}
 use Rattle.std.proofs.lemmas.List.{take_more, take_more_set, take_all, drop-drop, drop-set-lt, map_push}
-use Rattle.calls.specs.Answers.{Lent}
-use Rattle.calls.specs.Effects.{Tables, tables, lent, Gives}
+use Rattle.calls.specs.Effects.{lent, Gives}
 use Rattle.calls.specs.declared.call.Answer.{Answer}
 use Rattle.calls.specs.declared.call.Call.{Call}
 use Rattle.sharing.specs.Played.{Sides, Played}
 use Rattle.sharing.specs.Through.{asked_through}
 use Rattle.stl.specs.Structures.{Structure}
-use Rattle.fold.specs.Lists.{full_said, folded_said, Told}
+use Rattle.fold.specs.Lists.{SameLent, full_said, folded_said, Told}
 use Rattle.fold.specs.declared.both.Pair.{Pair}
+use Rattle.fold.specs.declared.both.Side.{Side}
 
--- tables of the same lengths
-pub same_lent : (a b c d e f : List ℕ) → length d ≡ length a → length e ≡ length b → length f ≡ length c → lent (tables d e f) ≡ lent (tables a b c)
-same_lent a b c d e f p q r = λ i. record { sheet = p i; work = q i; run = r i }
-
--- a place below the calls is one below the answers
-pub room_for : {i m n k : ℕ} → i < m → m ≤ n → k ≡ n → i < k
-room_for h l e = omega arith
+-- a side is lent the same from step to step
+pub lent_still : {M : Type 0} {x y z : Side M} → SameLent x y → SameLent y z → SameLent x z
+lent_still a b = record {
+  map = b.map ∙ a.map;
+  session = b.session ∙ a.session;
+  sheet = b.sheet ∙ a.sheet;
+  work = b.work ∙ a.work;
+  run = b.run ∙ a.run;
+  lengths = b.lengths ∙ a.lengths;
+}
 
 -- one pair more
 said_more : (f : Pair → Answer) (pairs : List Pair) (n : ℕ) (p : Pair) → n < length pairs → map f (take (n + 1) (set pairs n p)) ≡ map f (take n pairs) ++ (f p ∷ [])
@@ -43,6 +46,3 @@ module _ {full folded : Structure} {table : List ℕ} {begin : Sides} {calls : L
   -- all of them
   pub played_all : {n : ℕ} {after : List Pair} {end : Sides} → length calls ≤ n → Told full folded table begin calls before n after end → Played full folded table begin calls (full_said n after) (folded_said n after) end
   played_all {n} {after} {end} h so = subst (λ cs. Played full folded table begin cs (full_said n after) (folded_said n after) end) (take_all n calls h) so.played
-
-  pub told_all : {m n : ℕ} {after : List Pair} {end : Sides} → m ≤ n → n ≤ m → Told full folded table begin calls before m after end → Told full folded table begin calls before n after end
-  told_all {m = m} {n = n} {after = after} {end = end} h i so = let e : m ≡ n = omega arith in subst (λ n. Told full folded table begin calls before n after end) e so

@@ -1,5 +1,5 @@
 -- Two class tables made one. Assumes nothing.
-use Rattle.std.specs.Prelude.{◌≡◌, ℕ, ◌<◌, ◌≤◌, Bool, List, length, Ok, Err, Result, ◌≢◌, slice_index}
+use Rattle.std.specs.Prelude.{◌≡◌, ℕ, ◌<◌, Bool, List, length, Ok, Err, Result, ◌≢◌, slice_index}
 use Rattle.map.specs.Meaning.{Meaning, Bounded, structure}
 use Rattle.sharing.specs.Accepts.{class_of, Accepts}
 use Rattle.sharing.specs.Chains.{chained}

@@ -1,16 +1,35 @@
--- A list of calls on both sessions, and where their answers stand. Assumes nothing.
+-- Calls on both sessions, and where their answers stand. Assumes nothing.
 use Rattle.std.specs.Prelude.{◌≡◌, ℕ, ◌<◌, ◌≤◌, List, map, length, take, drop, Ok, Err, Result}
 use Rattle.calls.specs.Answers.{State}
-use Rattle.calls.specs.Effects.{Tables}
+use Rattle.calls.specs.Effects.{Tables, tables, lent}
 use Rattle.calls.specs.declared.call.Answer.{Answer}
 use Rattle.calls.specs.declared.call.Call.{Call}
+use Rattle.session.specs.Sessions.{state}
 use Rattle.sharing.specs.Played.{Sides, Played}
 use Rattle.stl.specs.Structures.{Structure}
 use Rattle.fold.specs.declared.both.Pair.{Pair}
+use Rattle.fold.specs.declared.both.Side.{Side}
+
+-- what the session of a side keeps
+abbrev pub kept_by : {M : Type 0} → Side M → State
+kept_by x = state x.session.now
+
+-- the tables that are lent to a side
+abbrev pub lent_to : {M : Type 0} → Side M → Tables
+lent_to x = tables x.sheet.now x.work.now x.run.now
+
+-- a side is lent what it was lent: the same map, the same session and the same tables, whatever stands in them
+pub record SameLent {M : Type 0} (x y : Side M) : Type 0 where
+  pub map : y.map.now ≡ x.map.now
+  pub session : y.session.ghost_name ≡ x.session.ghost_name
+  pub sheet : y.sheet.ghost_name ≡ x.sheet.ghost_name
+  pub work : y.work.ghost_name ≡ x.work.ghost_name
+  pub run : y.run.ghost_name ≡ x.run.ghost_name
+  pub lengths : lent (lent_to y) ≡ lent (lent_to x)
 
 -- two sessions and their tables
-abbrev pub sides : State → Tables → State → Tables → Sides
-sides st t su u = record { on_full = st; on_folded = su; tables_full = t; tables_folded = u }
+abbrev pub sides : {F G : Type 0} → Side F → Side G → Sides
+sides x y = record { on_full = kept_by x; on_folded = kept_by y; tables_full = lent_to x; tables_folded = lent_to y }
 
 -- the answers of the full session in the first n pairs
 abbrev pub full_said : ℕ → List Pair → List Answer

@@ -11,14 +11,12 @@ use look::Look;
 use map::Map;
 use session::held::Session;
 
-// The class of s; for a state that the fold does not have, a number that no map has.
+// The class of s; for a state that the fold does not have, a number that no map has. The folded session is asked with a number, and
+// refuses this one as a missing state, after what it asks before: an Option here would ask the session's questions a second time.
 pub(crate) fn class_or_none(fold: &Accepted<'_>, s: u32) -> u32
     ensures { result ≡ read fold.now.table.now s }
 {
-    match fold.class(s) {
-        Some(class) => class,
-        None => u32::MAX,
-    }
+    fold.class(s).unwrap_or(u32::MAX)
 }
 
 // The label of row r at state s of the full map: that of its class, by a session on the folded map.

@@ -1,10 +1,9 @@
 // Calls on two sessions side by side: one on the full map, one on the folded map.
 ghost use Rattle.std.specs.Prelude.{◌≡◌, ◌≤◌, length, OnOk};
 ghost use Rattle.calls.specs.Claims.{moment};
-ghost use Rattle.calls.specs.Effects.{tables, Gives};
-ghost use Rattle.fold.specs.Lists.{sides, full_said, folded_said, Told, ToldAll};
+ghost use Rattle.calls.specs.Effects.{Gives};
+ghost use Rattle.fold.specs.Lists.{kept_by, lent_to, SameLent, sides, full_said, folded_said, Told, ToldAll};
 ghost use Rattle.map.specs.Meaning.{structure};
-ghost use Rattle.session.specs.Sessions.{state};
 ghost use Rattle.sharing.specs.Called.{AfterBoth};
 ghost use Rattle.sharing.specs.Claims.{FoldsShare};
 ghost use Rattle.sharing.specs.Played.{AfterAll};
@@ -16,6 +15,28 @@ use foldcheck::accepted::Accepted;
 use look::Look;
 use map::Map;
 use session::held::Session;
+
+// A session on its map, with the tables that are lent to its calls. A struct of the fold and both sides was tried too, but its caller
+// learns nothing of a reference that lies two structs deep.
+#[derive(Drop)]
+pub struct Side<'a, M> {
+    pub map: &'a M,
+    pub session: &'a mut Session,
+    pub sheet: &'a mut [u64],
+    pub work: &'a mut [u32],
+    pub run: &'a mut [u32],
+}
+
+impl<'a, M: Map> Side<'a, M> {
+    // Makes the call, and gives its answer.
+    fn perform(&mut self, asked: Call) -> Answer
+        ensures gives { Gives (structure M.L.Look.sign (M.Map.meaning self.old.map.now)) (kept_by self.old) (lent_to self.old) asked result (kept_by self.new) (lent_to self.new) }
+        ensures same { SameLent self.old self.new }
+    {
+        self.session
+            .perform(self.map, self.sheet, self.work, self.run, asked)
+    }
+}
 
 // What the two sessions answered.
 #[derive(Clone, Copy)]
@@ -39,71 +60,38 @@ fn through(fold: &Accepted<'_>, asked: Call) -> Call
 // a witness lent run tables of one length and work tables that both suffice or both do not: the answers are the same.
 pub fn perform_both<F: Map, G: Map<L = F::L>>(
     fold: &Accepted<'_>,
-    full: &F,
-    session: &mut Session,
-    sheet: &mut [u64],
-    work: &mut [u32],
-    run: &mut [u32],
-    folded: &G,
-    folded_session: &mut Session,
-    folded_sheet: &mut [u64],
-    folded_work: &mut [u32],
-    folded_run: &mut [u32],
+    full: &mut Side<'_, F>,
+    folded: &mut Side<'_, G>,
     asked: Call,
 ) -> Pair
-    ensures full { Gives (structure F.L.Look.sign (F.Map.meaning full.now)) (state session.old) (tables sheet.old work.old run.old) asked result.full (state session.new) (tables sheet.new work.new run.new) }
-    ensures folded { Gives (structure F.L.Look.sign (G.Map.meaning folded.now)) (state folded_session.old) (tables folded_sheet.old folded_work.old folded_run.old) (asked_through fold.now.table.now asked) result.folded (state folded_session.new) (tables folded_sheet.new folded_work.new folded_run.new) }
-    ensures both { AfterBoth F.L.Look.sign F.L.Look.same (F.Map.meaning full.now) (G.Map.meaning folded.now) fold.now.table.now (moment (state session.old) (tables sheet.old work.old run.old) asked result.full (state session.new) (tables sheet.new work.new run.new)) (moment (state folded_session.old) (tables folded_sheet.old folded_work.old folded_run.old) (asked_through fold.now.table.now asked) result.folded (state folded_session.new) (tables folded_sheet.new folded_work.new folded_run.new)) }
+    ensures full { Gives (structure F.L.Look.sign (F.Map.meaning full.old.map.now)) (kept_by full.old) (lent_to full.old) asked result.full (kept_by full.new) (lent_to full.new) }
+    ensures folded { Gives (structure F.L.Look.sign (G.Map.meaning folded.old.map.now)) (kept_by folded.old) (lent_to folded.old) (asked_through fold.now.table.now asked) result.folded (kept_by folded.new) (lent_to folded.new) }
+    ensures both { AfterBoth F.L.Look.sign F.L.Look.same (F.Map.meaning full.old.map.now) (G.Map.meaning folded.old.map.now) fold.now.table.now (moment (kept_by full.old) (lent_to full.old) asked result.full (kept_by full.new) (lent_to full.new)) (moment (kept_by folded.old) (lent_to folded.old) (asked_through fold.now.table.now asked) result.folded (kept_by folded.new) (lent_to folded.new)) }
     ensures always { FoldsShare }
+    ensures same_full { SameLent full.old full.new }
+    ensures same_folded { SameLent folded.old folded.new }
 {
-    let answer = session.perform(full, sheet, work, run, asked);
-    let other = folded_session.perform(
-        folded,
-        folded_sheet,
-        folded_work,
-        folded_run,
-        through(fold, asked),
-    );
     Pair {
-        full: answer,
-        folded: other,
+        full: full.perform(asked),
+        folded: folded.perform(through(fold, asked)),
     }
 }
 
-// Makes each call in turn on both sessions, and writes both answers.
+// Makes each call in turn on both sessions, and writes both answers, by index (see `write_chain`).
 fn play<F: Map, G: Map<L = F::L>>(
     fold: &Accepted<'_>,
-    full: &F,
-    session: &mut Session,
-    sheet: &mut [u64],
-    work: &mut [u32],
-    run: &mut [u32],
-    folded: &G,
-    folded_session: &mut Session,
-    folded_sheet: &mut [u64],
-    folded_work: &mut [u32],
-    folded_run: &mut [u32],
+    full: &mut Side<'_, F>,
+    folded: &mut Side<'_, G>,
     calls: &[Call],
     answers: &mut [Pair],
 )
     requires { length calls.now ≤ length answers.old }
-    ensures { Told (structure F.L.Look.sign (F.Map.meaning full.now)) (structure F.L.Look.sign (G.Map.meaning folded.now)) fold.now.table.now (sides (state session.old) (tables sheet.old work.old run.old) (state folded_session.old) (tables folded_sheet.old folded_work.old folded_run.old)) calls.now answers.old (length calls.now) answers.new (sides (state session.new) (tables sheet.new work.new run.new) (state folded_session.new) (tables folded_sheet.new folded_work.new folded_run.new)) }
+    ensures told { Told (structure F.L.Look.sign (F.Map.meaning full.old.map.now)) (structure F.L.Look.sign (G.Map.meaning folded.old.map.now)) fold.now.table.now (sides full.old folded.old) calls.now answers.old (length calls.now) answers.new (sides full.new folded.new) }
+    ensures same_full { SameLent full.old full.new }
+    ensures same_folded { SameLent folded.old folded.new }
 {
-    for i in 0..calls.len() {
-        answers[i] = perform_both(
-            fold,
-            full,
-            session,
-            sheet,
-            work,
-            run,
-            folded,
-            folded_session,
-            folded_sheet,
-            folded_work,
-            folded_run,
-            calls[i],
-        );
+    for (i, call) in calls.iter().enumerate() {
+        answers[i] = perform_both(fold, full, folded, *call);
     }
 }
 
@@ -116,39 +104,19 @@ pub struct ShortAnswers;
 // tables that both suffice or both do not: the answers are the same.
 pub fn perform_all<F: Map, G: Map<L = F::L>>(
     fold: &Accepted<'_>,
-    full: &F,
-    session: &mut Session,
-    sheet: &mut [u64],
-    work: &mut [u32],
-    run: &mut [u32],
-    folded: &G,
-    folded_session: &mut Session,
-    folded_sheet: &mut [u64],
-    folded_work: &mut [u32],
-    folded_run: &mut [u32],
+    full: &mut Side<'_, F>,
+    folded: &mut Side<'_, G>,
     calls: &[Call],
     answers: &mut [Pair],
 ) -> Result<(), ShortAnswers>
-    ensures told { ToldAll (structure F.L.Look.sign (F.Map.meaning full.now)) (structure F.L.Look.sign (G.Map.meaning folded.now)) fold.now.table.now (sides (state session.old) (tables sheet.old work.old run.old) (state folded_session.old) (tables folded_sheet.old folded_work.old folded_run.old)) calls.now answers.old result answers.new (sides (state session.new) (tables sheet.new work.new run.new) (state folded_session.new) (tables folded_sheet.new folded_work.new folded_run.new)) }
-    ensures both { OnOk result (AfterAll F.L.Look.sign F.L.Look.same (F.Map.meaning full.now) (G.Map.meaning folded.now) fold.now.table.now (sides (state session.old) (tables sheet.old work.old run.old) (state folded_session.old) (tables folded_sheet.old folded_work.old folded_run.old)) calls.now (full_said (length calls.now) answers.new) (folded_said (length calls.now) answers.new) (sides (state session.new) (tables sheet.new work.new run.new) (state folded_session.new) (tables folded_sheet.new folded_work.new folded_run.new))) }
+    ensures told { ToldAll (structure F.L.Look.sign (F.Map.meaning full.old.map.now)) (structure F.L.Look.sign (G.Map.meaning folded.old.map.now)) fold.now.table.now (sides full.old folded.old) calls.now answers.old result answers.new (sides full.new folded.new) }
+    ensures both { OnOk result (AfterAll F.L.Look.sign F.L.Look.same (F.Map.meaning full.old.map.now) (G.Map.meaning folded.old.map.now) fold.now.table.now (sides full.old folded.old) calls.now (full_said (length calls.now) answers.new) (folded_said (length calls.now) answers.new) (sides full.new folded.new)) }
+    ensures same_full { SameLent full.old full.new }
+    ensures same_folded { SameLent folded.old folded.new }
 {
     if answers.len() < calls.len() {
         return Err(ShortAnswers);
     }
-    play(
-        fold,
-        full,
-        session,
-        sheet,
-        work,
-        run,
-        folded,
-        folded_session,
-        folded_sheet,
-        folded_work,
-        folded_run,
-        calls,
-        answers,
-    );
+    play(fold, full, folded, calls, answers);
     Ok(())
 }

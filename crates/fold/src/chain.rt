@@ -12,22 +12,18 @@ use look::Look;
 fn all_below(first: &[u32], n: usize) -> bool
     ensures { Decides result (AllBelow n first.now) }
 {
-    for class in first {
-        if *class as usize >= n {
-            return false;
-        }
-    }
-    true
+    first.iter().all(|class| (*class as usize) < n)
 }
 
-// For each entry of the first table, that entry of the second.
+// For each entry of the first table, that entry of the second. Written by index: of what is written through `iter_mut`, a proof knows
+// only the length.
 fn write_chain(first: &[u32], second: &[u32], out: &mut [u32])
     requires sized { length out.old ≡ length first.now }
     requires below { AllBelow (length second.now) first.now }
     ensures { out.new ≡ chained first.now second.now }
 {
-    for i in 0..first.len() {
-        out[i] = second[first[i] as usize];
+    for (i, class) in first.iter().enumerate() {
+        out[i] = second[*class as usize];
     }
 }
 

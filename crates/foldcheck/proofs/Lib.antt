@@ -1,1 +1,2 @@
+mod Searches
 mod Verdicts

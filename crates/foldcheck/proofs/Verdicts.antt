@@ -1,24 +1,24 @@
 -- The first no of a fold, question by question; there is one verdict. Assumes nothing.
-use Rattle.std.proofs.Common.{◌≡◌, ℕ, ◌+◌, ◌<◌, ◌≤◌, Bool, true, cond, eqb, ◌⊎◌, List, length, Some, None, Option, sym, refl, ap, ◌∙◌, subst, inl, inr, arith}
+use Rattle.std.proofs.Common.{◌≡◌, ℕ, ◌+◌, ◌<◌, ◌≤◌, Bool, true, cond, eqb, ◌⊎◌, List, length, Some, None, Option, Decides, false, true≢false, sym, refl, ap, ◌∙◌, subst, inl, inr, arith}
 use Rattle.std.proofs.lemmas.Bool.{cases_lt}
+use Rattle.std.specs.Option.{unwrap_or}
 use Rattle.map.specs.Meaning.{Meaning}
 use Rattle.sharing.specs.Accepts.{Accepts}
 use Rattle.foldcheck.specs.Faults.{refusal}
-use Rattle.foldcheck.specs.Questions.{Asks, Lowest}
-use Rattle.foldcheck.specs.Verdicts.{carried_state, Before, Yes, Asked, FirstNo, Judges, Decided}
+use Rattle.foldcheck.specs.Questions.{LowestNo}
+use Rattle.foldcheck.specs.Verdicts.{Before, Yes, Asked, FirstNo, Judges, Decided}
 use Rattle.foldcheck.specs.declared.fault.FoldFault.{FoldFault}
 use Rattle.foldcheck.specs.declared.fault.FoldFault.TheVariants.{WrongLength, NoClass, OtherLook, MoveLost, MoveAdded, StartLost, StartAdded, NotAClass}
-use Rattle.foldcheck.specs.declared.questions.Question.TheVariants.{Class, Alike, Forth, Back, Start, Started, Onto}
 
 -- the number of a fault's question, and the state at fault
-abbrev number : FoldFault → ℕ
+abbrev pub number : FoldFault → ℕ
 number f = (refusal f).number
 
-abbrev place : FoldFault → ℕ
-place f = carried_state (refusal f).carried
+abbrev pub place : FoldFault → ℕ
+place f = unwrap_or (refusal f).carried 0
 
 -- the fault of a number at a state
-abbrev fault : ℕ → ℕ → FoldFault
+abbrev pub fault : ℕ → ℕ → FoldFault
 fault n s =
     cond (eqb n 27) WrongLength (cond (eqb n 28) (NoClass s) (cond (eqb n 29) (OtherLook s) (cond (eqb n 30) (MoveLost s) (cond (eqb n 31) (MoveAdded s) (cond (eqb n 32) (StartLost s) (cond (eqb n 33) (StartAdded s) (NotAClass s)))))))
 
@@ -44,25 +44,25 @@ numbered (StartAdded d) = (omega arith, omega arith)
 numbered (NotAClass d) = (omega arith, omega arith)
 
 module _ {L : Type 0} (sign : L → ℕ → Bool) (same : L → L → Bool) (full folded : Meaning L) (table : List ℕ) where
-  abbrev Said : FoldFault → Type 0
+  abbrev pub Said : FoldFault → Type 0
   Said = Yes sign same full folded table
 
-  abbrev Put : FoldFault → Type 0
+  abbrev pub Put : FoldFault → Type 0
   Put = Asked sign same full folded table
 
   -- the questions of lower numbers have a yes at each state
-  abbrev Passed : ℕ → Type 0
-  Passed n = (f : FoldFault) → Put f → number f < n → Said f
+  pub record Passed (n : ℕ) : Type 0 where
+    pub yes : (f : FoldFault) → Put f → number f < n → Said f
 
   passed_none : Passed 27
-  passed_none f a h = absurd (omega (arith, (numbered f).0))
+  passed_none = record { yes = λ f a h. absurd (omega (arith, (numbered f).0)) }
 
   passed_more : (n : ℕ) → Passed n → ((s : ℕ) → Put (fault n s) → Said (fault n s)) → Passed (n + 1)
-  passed_more n p q f a h = go (cases_lt (number f) n)
+  passed_more n p q = record { yes = λ f a h. go f a h (cases_lt (number f) n) }
     where
-      go : (number f < n) ⊎ (n ≤ number f) → Said f
-      go (inl i) = p f a i
-      go (inr i) =
+      go : (f : FoldFault) → Put f → number f < n + 1 → (number f < n) ⊎ (n ≤ number f) → Said f
+      go f a h (inl i) = p.yes f a i
+      go f a h (inr i) =
           let e : n ≡ number f = omega arith in
           let is : fault n (place f) ≡ f = ap (λ m. fault m (place f)) e ∙ told f in
           subst Said is (q (place f) (subst Put (sym is) a))
@@ -71,7 +71,7 @@ module _ {L : Type 0} (sign : L → ℕ → Bool) (same : L → L → Bool) (ful
   first f p a wrong lower = record { asked = a; no = wrong; before = before }
     where
       before : (g : FoldFault) → Put g → Before g f → Said g
-      before g b (inl h) = p g b h
+      before g b (inl h) = p.yes g b h
       before g b (inr h) = subst Said (ap (λ m. fault m (place g)) (sym h.0) ∙ told g) (lower (place g) h.1)
 
   -- what is accepted has a yes everywhere
@@ -114,55 +114,35 @@ module _ {L : Type 0} (sign : L → ℕ → Bool) (same : L → L → Bool) (ful
   pub wrong_length : (length table ≡ full.size → ⊥) → Decided sign same full folded table (Some WrongLength)
   wrong_length wrong = decided (Some WrongLength) (first WrongLength passed_none tt wrong (λ s h. absurd (omega arith)))
 
-  -- question by question
-  module _ (sized : length table ≡ full.size) where
-    passed_sized : Passed 28
-    passed_sized = passed_more 27 passed_none (λ s a. sized)
+  -- the table has the right length
+  pub passed_sized : length table ≡ full.size → Passed 28
+  passed_sized sized = passed_more 27 passed_none (λ s a. sized)
 
-    pub no_class : (s : ℕ) → Lowest (Asks sign same full folded table Class) full.size (Some s) → Decided sign same full folded table (Some (NoClass s))
-    no_class s w = decided (Some (NoClass s)) (first (NoClass s) passed_sized w.0 w.1 w.2)
+  -- a question to which a test said no nowhere has a yes at each state
+  pub passed : (n k : ℕ) {Says : ℕ → Bool → Type 0} → Passed n → LowestNo Says k None → ((s : ℕ) (b : Bool) → Says s b → Decides b (Said (fault n s))) → ((s : ℕ) → Put (fault n s) → s < k) → Passed (n + 1)
+  passed n k p none says within = passed_more n p (λ s a. (says s true (none.none refl s (within s a))).0 refl)
 
-    module _ (class : Lowest (Asks sign same full folded table Class) full.size None) where
-      passed_class : Passed 29
-      passed_class = passed_more 28 passed_sized class
+  -- where it said no, the lowest state is at fault
+  pub refused : (n : ℕ) (f : FoldFault) {o : Option FoldFault} {Says : ℕ → Bool → Type 0} {k : ℕ} → number f ≡ n → Some f ≡ o → Passed n → LowestNo Says k (Some (place f)) →
+      ((s : ℕ) (b : Bool) → Says s b → Decides b (Said (fault n s))) → (place f < k → Put f) → Decided sign same full folded table o
+  refused n f d e p found says within =
+      let no = found.some (place f) refl in
+      subst (Decided sign same full folded table) e (decided (Some f) (first f (subst Passed (sym d) p) (within no.0)
+      (λ yes. absurd (true≢false (sym ((says (place f) false no.1).1 (subst Said (sym (ap (λ n. fault n (place f)) (sym d) ∙ told f)) yes)))))
+      (λ s h. subst (λ n. Said (fault n s)) (sym d) ((says s true (no.2 s h)).0 refl))))
 
-      pub other_look : (s : ℕ) → Lowest (Asks sign same full folded table Alike) full.size (Some s) → Decided sign same full folded table (Some (OtherLook s))
-      other_look s w = decided (Some (OtherLook s)) (first (OtherLook s) passed_class w.0 w.1 w.2)
+  -- all questions have a yes at each state
+  pub accepts : Passed 35 → Accepts sign same full folded table
+  accepts p = record {
+    sized = p.yes WrongLength tt (omega arith);
+    within = λ s h. p.yes (NoClass s) h (omega arith);
+    looks = λ s h. p.yes (OtherLook s) h (omega arith);
+    forth = λ s h. p.yes (MoveLost s) h (omega arith);
+    back = λ s h. p.yes (MoveAdded s) h (omega arith);
+    starts = λ s h. p.yes (StartLost s) h (omega arith);
+    started = λ d h. p.yes (StartAdded d) h (omega arith);
+    onto = λ d h. p.yes (NotAClass d) h (omega arith);
+  }
 
-      module _ (alike : Lowest (Asks sign same full folded table Alike) full.size None) where
-        passed_alike : Passed 30
-        passed_alike = passed_more 29 passed_class alike
-
-        pub move_lost : (s : ℕ) → Lowest (Asks sign same full folded table Forth) full.size (Some s) → Decided sign same full folded table (Some (MoveLost s))
-        move_lost s w = decided (Some (MoveLost s)) (first (MoveLost s) passed_alike w.0 w.1 w.2)
-
-        module _ (forth : Lowest (Asks sign same full folded table Forth) full.size None) where
-          passed_forth : Passed 31
-          passed_forth = passed_more 30 passed_alike forth
-
-          pub move_added : (s : ℕ) → Lowest (Asks sign same full folded table Back) full.size (Some s) → Decided sign same full folded table (Some (MoveAdded s))
-          move_added s w = decided (Some (MoveAdded s)) (first (MoveAdded s) passed_forth w.0 w.1 w.2)
-
-          module _ (back : Lowest (Asks sign same full folded table Back) full.size None) where
-            passed_back : Passed 32
-            passed_back = passed_more 31 passed_forth back
-
-            pub start_lost : (s : ℕ) → Lowest (Asks sign same full folded table Start) full.size (Some s) → Decided sign same full folded table (Some (StartLost s))
-            start_lost s w = decided (Some (StartLost s)) (first (StartLost s) passed_back w.0 w.1 w.2)
-
-            module _ (start : Lowest (Asks sign same full folded table Start) full.size None) where
-              passed_start : Passed 33
-              passed_start = passed_more 32 passed_back start
-
-              pub start_added : (d : ℕ) → Lowest (Asks sign same full folded table Started) folded.size (Some d) → Decided sign same full folded table (Some (StartAdded d))
-              start_added d w = decided (Some (StartAdded d)) (first (StartAdded d) passed_start w.0 w.1 w.2)
-
-              module _ (started : Lowest (Asks sign same full folded table Started) folded.size None) where
-                pub not_a_class : (d : ℕ) → Lowest (Asks sign same full folded table Onto) folded.size (Some d) → Decided sign same full folded table (Some (NotAClass d))
-                not_a_class d w = decided (Some (NotAClass d)) (first (NotAClass d) (passed_more 33 passed_start started) w.0 w.1 w.2)
-
-                pub accepts : Lowest (Asks sign same full folded table Onto) folded.size None → Accepts sign same full folded table
-                accepts onto = record { sized = sized; within = class; looks = alike; forth = forth; back = back; starts = start; started = started; onto = onto }
-
-                pub accepted : Lowest (Asks sign same full folded table Onto) folded.size None → Decided sign same full folded table None
-                accepted onto = decided None (accepts onto)
+  pub accepted : Passed 35 → Decided sign same full folded table None
+  accepted p = decided None (accepts p)

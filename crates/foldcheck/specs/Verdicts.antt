@@ -1,5 +1,6 @@
 -- What is found of an offered fold: each question is asked of all states before the next, and the first no decides. Assumes nothing.
-use Rattle.std.specs.Prelude.{◌≡◌, ℕ, ◌<◌, Bool, ◌⊎◌, List, length, Some, None, Ok, Err, Option, Result}
+use Rattle.std.specs.Prelude.{◌≡◌, ℕ, ◌<◌, Bool, ◌⊎◌, List, length, Some, None, Option}
+use Rattle.std.specs.Option.{unwrap_or}
 use Rattle.map.specs.Meaning.{Meaning}
 use Rattle.sharing.specs.Accepts.{HasClass, LooksAlike, MovesForth, MovesBack, StartsForth, StartsBack, IsClass, Accepts}
 use Rattle.stl.specs.Iff.{◌⇔◌}
@@ -7,14 +8,9 @@ use Rattle.foldcheck.specs.Faults.{refusal}
 use Rattle.foldcheck.specs.declared.fault.FoldFault.{FoldFault}
 use Rattle.foldcheck.specs.declared.fault.FoldFault.TheVariants.{WrongLength, NoClass, OtherLook, MoveLost, MoveAdded, StartLost, StartAdded, NotAClass}
 
--- the state that a refusal carries, 0 where it carries none
-abbrev pub carried_state : Option ℕ → ℕ
-carried_state None = 0
-carried_state (Some s) = s
-
--- the order of the questions: by number, and each from state 0 on
+-- the order of the questions: by number, and each from state 0 on; a refusal that carries no state counts as at 0
 abbrev pub Before : FoldFault → FoldFault → Type 0
-Before f g = ((refusal f).number < (refusal g).number) ⊎ (((refusal f).number ≡ (refusal g).number) × (carried_state (refusal f).carried < carried_state (refusal g).carried))
+Before f g = ((refusal f).number < (refusal g).number) ⊎ (((refusal f).number ≡ (refusal g).number) × (unwrap_or (refusal f).carried 0 < unwrap_or (refusal g).carried 0))
 
 module _ {L : Type 0} (sign : L → ℕ → Bool) (same : L → L → Bool) (full folded : Meaning L) (table : List ℕ) where
   -- the question to which the fault is the no has a yes, at the state that the fault carries
@@ -49,11 +45,6 @@ module _ {L : Type 0} (sign : L → ℕ → Bool) (same : L → L → Bool) (ful
   abbrev pub Judges : Option FoldFault → Type 0
   Judges None = Accepts sign same full folded table
   Judges (Some f) = FirstNo f
-
--- what a check refused with, if it refused
-abbrev pub refused_with : {A : Type 0} → Result A FoldFault → Option FoldFault
-refused_with (Ok a) = None
-refused_with (Err f) = Some f
 
 -- the check accepts exactly when all has a yes, and refuses with a fault exactly when that is the first no
 abbrev pub Decided : {L : Type 0} → (L → ℕ → Bool) → (L → L → Bool) → Meaning L → Meaning L → List ℕ → Option FoldFault → Type 0

@@ -20,11 +20,6 @@ impl<'a> Accepted<'a> {
     pub fn class(&self, s: u32) -> Option<u32>
         ensures { result ≡ slice_get self.now.table.now s }
     {
-        let classes = self.classes();
-        if (s as usize) < classes.len() {
-            Some(classes[s as usize])
-        } else {
-            None
-        }
+        self.classes().get(s as usize).copied()
     }
 }

@@ -5,3 +5,4 @@ pub mod accepted;
 pub mod fault;
 pub mod offer;
 mod questions;
+mod search;

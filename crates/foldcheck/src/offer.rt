@@ -1,13 +1,14 @@
 // Offered folds, and their check.
 ghost use Rattle.std.specs.Prelude.{◌≡◌, IfOk, OnOk};
-ghost use Rattle.foldcheck.specs.Verdicts.{refused_with, Decided};
+ghost use Rattle.std.specs.Result.{result_err};
+ghost use Rattle.foldcheck.specs.Verdicts.{Decided};
 ghost use Rattle.map.specs.Meaning.{structure};
 ghost use Rattle.sharing.specs.Accepts.{class_of};
 ghost use Rattle.sharing.specs.Shares.{Share};
 
 use crate::accepted::Accepted;
 use crate::fault::FoldFault;
-use crate::questions::{Question, lowest_no};
+use crate::questions::Folding;
 use look::Look;
 use map::Map;
 
@@ -33,34 +34,11 @@ impl<'a> Offered<'a> {
         folded: &G,
     ) -> Result<Accepted<'a>, FoldFault>
         ensures table { IfOk result (λ a. a.table.now ≡ self.entry.table.now) }
-        ensures verdict { Decided F.L.Look.sign F.L.Look.same (F.Map.meaning full.now) (G.Map.meaning folded.now) self.entry.table.now (refused_with result) }
+        ensures verdict { Decided F.L.Look.sign F.L.Look.same (F.Map.meaning full.now) (G.Map.meaning folded.now) self.entry.table.now (result_err result) }
         ensures share { OnOk result (Share (structure F.L.Look.sign (F.Map.meaning full.now)) (structure F.L.Look.sign (G.Map.meaning folded.now)) (class_of self.entry.table.now)) }
     {
-        let entries = self.table.len();
-        if entries != full.size() as usize {
-            return Err(FoldFault::WrongLength);
-        }
-        if let Some(s) = lowest_no(Question::Class, full, folded, self.table) {
-            return Err(FoldFault::NoClass(s));
-        }
-        if let Some(s) = lowest_no(Question::Alike, full, folded, self.table) {
-            return Err(FoldFault::OtherLook(s));
-        }
-        if let Some(s) = lowest_no(Question::Forth, full, folded, self.table) {
-            return Err(FoldFault::MoveLost(s));
-        }
-        if let Some(s) = lowest_no(Question::Back, full, folded, self.table) {
-            return Err(FoldFault::MoveAdded(s));
-        }
-        if let Some(s) = lowest_no(Question::Start, full, folded, self.table) {
-            return Err(FoldFault::StartLost(s));
-        }
-        if let Some(d) = lowest_no(Question::Started, full, folded, self.table) {
-            return Err(FoldFault::StartAdded(d));
-        }
-        if let Some(d) = lowest_no(Question::Onto, full, folded, self.table) {
-            return Err(FoldFault::NotAClass(d));
-        }
+        let fold = Folding::new(full, folded, self.table).ok_or(FoldFault::WrongLength)?;
+        fold.ask()?;
         Ok(Accepted { table: self.table })
     }
 }

@@ -1,168 +1,143 @@
 // The questions that are asked of each state.
-ghost use Rattle.std.specs.Prelude.{◌≡◌, ℕ, ◌<◌, true, length, Decides, slice_index};
-ghost use Rattle.foldcheck.specs.Questions.{Asks, count, MovesInto, Lowest};
+ghost use Rattle.std.specs.Prelude.{◌≡◌, ℕ, ◌<◌, true, length, Some, None, Decides, MatchOption, MatchResult};
+ghost use Rattle.std.specs.Result.{result_err};
+ghost use Rattle.foldcheck.specs.Questions.{MovesInto, LowestNo};
+ghost use Rattle.foldcheck.specs.Verdicts.{Decided};
 ghost use Rattle.map.specs.Meaning.{structure};
-ghost use Rattle.sharing.specs.Accepts.{class_of, same_look, MovesForth, MovesBack};
+ghost use Rattle.sharing.specs.Accepts.{class_of, HasClass, LooksAlike, MovesForth, MovesBack, StartsForth, StartsBack, IsClass};
 
+use crate::fault::FoldFault;
+use crate::search::{find_target, lowest_no};
 use look::Look;
 use map::Map;
 use map::read::moves_to;
 
-#[derive(Clone, Copy)]
-pub(crate) enum Question {
-    // its class is a folded state
-    Class,
-    // it looks like its class
-    Alike,
-    // its moves are moves between the classes
-    Forth,
-    // the moves of its class are its own
-    Back,
-    // its class is a start if it is one
-    Start,
-    // it is the class of a start if it is a start
-    Started,
-    // it is a class
-    Onto,
-}
-
-// Entry k of the list of s.
-fn target<M: Map>(map: &M, s: u32, k: u32) -> u32
-    requires { k < length ((M.meaning map.now).list s) }
-    ensures entry { result ≡ slice_index ((M.meaning map.now).list s) k }
-    ensures state { result < (M.meaning map.now).size }
+// Asks at each number below n, and refuses at the lowest that has a no.
+fn ask_all<Q: Fn(u32) -> bool, E, F: FnOnce(u32) -> E>(n: u32, ask: Q, fault: F) -> Result<(), E>
+    requires asks { (s : ℕ) → s < n → Q.pre ask s }
+    requires faults { F.IsAlwaysCallable fault }
+    ensures { MatchResult result (λ _. LowestNo (Q.post ask) n None) (λ e. (s : ℕ) × LowestNo (Q.post ask) n (Some s) × F.post fault s e) }
 {
-    map.entry(s, k).unwrap()
-}
-
-// Whether state s of the one map looks like state d of the other.
-fn looks_alike<F: Map, G: Map<L = F::L>>(full: &F, s: u32, folded: &G, d: u32) -> bool
-    ensures { result ≡ same_look F.L.Look.same ((F.Map.meaning full.now).look s) ((G.Map.meaning folded.now).look d) }
-{
-    match (full.look_of(s), folded.look_of(d)) {
-        (Some(a), Some(b)) => a.same_as(&b),
-        _ => false,
+    match lowest_no(n, ask) {
+        Some(s) => Err(fault(s)),
+        None => Ok(()),
     }
 }
 
-// Whether every move from s has a move between the classes.
-fn moves_forth<F: Map, G: Map<L = F::L>>(full: &F, folded: &G, classes: &[u32], s: u32) -> bool
-    requires sized { length classes.now ≡ (F.Map.meaning full.now).size }
-    requires state { s < (F.Map.meaning full.now).size }
-    ensures { Decides result (MovesForth F.L.Look.sign F.L.Look.same (F.Map.meaning full.now) (G.Map.meaning folded.now) classes.now s) }
-{
-    for k in 0..full.list_len(s) {
-        let t = target(full, s, k);
-        if !moves_to(folded, classes[s as usize], classes[t as usize]) {
-            return false;
+// A full map, a folded map, and the class of each full state.
+#[derive(Drop)]
+pub(crate) struct Folding<'a, F: Map, G: Map<L = F::L>> {
+    full: &'a F,
+    folded: &'a G,
+    classes: &'a [u32],
+    ghost sized: { length classes.now ≡ (F.Map.meaning full.now).size },
+}
+
+impl<'a, F: Map, G: Map<L = F::L>> Folding<'a, F, G> {
+    // Takes the table where it has an entry for each full state, and no other.
+    pub(crate) fn new(full: &'a F, folded: &'a G, classes: &'a [u32]) -> Option<Self>
+        ensures { MatchOption result (length classes.now ≡ (F.Map.meaning full.now).size → ⊥) (λ f. (f.full.now ≡ full.now) × (f.folded.now ≡ folded.now) × (f.classes.now ≡ classes.now)) }
+    {
+        if classes.len() == full.size() as usize {
+            Some(Folding {
+                full,
+                folded,
+                classes,
+            })
+        } else {
+            None
         }
     }
-    true
-}
 
-// Whether s moves to a state of class d.
-fn moves_into<F: Map>(full: &F, classes: &[u32], s: u32, d: u32) -> bool
-    requires { length classes.now ≡ (F.meaning full.now).size }
-    ensures { Decides result (MovesInto F.L.Look.sign (F.meaning full.now) classes.now s d) }
-{
-    for k in 0..full.list_len(s) {
-        let t = target(full, s, k);
-        if classes[t as usize] == d {
-            return true;
+    // Whether the class of s is a folded state. A state is an index of the table, and a type for such indices would be no plainer, so
+    // each question of a full state asks for the bound.
+    fn has_class(&self, s: u32) -> bool
+        requires { s < length self.now.classes.now }
+        ensures { Decides result (HasClass F.L.Look.sign F.L.Look.same (F.Map.meaning self.now.full.now) (G.Map.meaning self.now.folded.now) self.now.classes.now s) }
+    {
+        self.classes[s as usize] < self.folded.size()
+    }
+
+    // Whether s looks like its class.
+    fn looks_alike(&self, s: u32) -> bool
+        requires { s < length self.now.classes.now }
+        ensures { Decides result (LooksAlike F.L.Look.sign F.L.Look.same (F.Map.meaning self.now.full.now) (G.Map.meaning self.now.folded.now) self.now.classes.now s) }
+    {
+        let class = self.classes[s as usize];
+        match (self.full.look_of(s), self.folded.look_of(class)) {
+            (Some(a), Some(b)) => a.same_as(&b),
+            _ => false,
         }
     }
-    false
-}
 
-// Whether s moves wherever its class moves.
-fn moves_back<F: Map, G: Map<L = F::L>>(full: &F, folded: &G, classes: &[u32], s: u32) -> bool
-    requires sized { length classes.now ≡ (F.Map.meaning full.now).size }
-    requires state { s < (F.Map.meaning full.now).size }
-    ensures { Decides result (MovesBack F.L.Look.sign F.L.Look.same (F.Map.meaning full.now) (G.Map.meaning folded.now) classes.now s) }
-{
-    let class = classes[s as usize];
-    for k in 0..folded.list_len(class) {
-        let d = target(folded, class, k);
-        if !moves_into(full, classes, s, d) {
-            return false;
-        }
+    // Whether every move from s has a move between the classes.
+    fn moves_forth(&self, s: u32) -> bool
+        requires { s < length self.now.classes.now }
+        ensures { Decides result (MovesForth F.L.Look.sign F.L.Look.same (F.Map.meaning self.now.full.now) (G.Map.meaning self.now.folded.now) self.now.classes.now s) }
+    {
+        let class = self.classes[s as usize];
+        let lost = |t: u32| !moves_to(self.folded, class, self.classes[t as usize]);
+        find_target(self.full, s, lost).is_none()
     }
-    true
-}
 
-// Whether a start has class d.
-fn has_start<F: Map>(full: &F, classes: &[u32], d: u32) -> bool
-    requires { length classes.now ≡ (F.meaning full.now).size }
-    ensures { Decides result ((s : ℕ) × (s < (F.meaning full.now).size) × ((F.meaning full.now).start s ≡ true) × (class_of classes.now s ≡ d)) }
-{
-    for s in 0..full.size() {
-        if full.is_start(s) && classes[s as usize] == d {
-            return true;
-        }
+    // Whether s moves to a state of class d.
+    fn moves_into(&self, s: u32, d: u32) -> bool
+        ensures { Decides result (MovesInto F.L.Look.sign (F.Map.meaning self.now.full.now) self.now.classes.now s d) }
+    {
+        find_target(self.full, s, |t| self.classes[t as usize] == d).is_some()
     }
-    false
-}
 
-// Whether a state has class d.
-fn has_state(classes: &[u32], d: u32) -> bool
-    ensures { Decides result ((s : ℕ) × (s < length classes.now) × (class_of classes.now s ≡ d)) }
-{
-    for class in classes {
-        if *class == d {
-            return true;
-        }
+    // Whether s moves wherever its class moves.
+    fn moves_back(&self, s: u32) -> bool
+        requires { s < length self.now.classes.now }
+        ensures { Decides result (MovesBack F.L.Look.sign F.L.Look.same (F.Map.meaning self.now.full.now) (G.Map.meaning self.now.folded.now) self.now.classes.now s) }
+    {
+        let class = self.classes[s as usize];
+        find_target(self.folded, class, |d| !self.moves_into(s, d)).is_none()
     }
-    false
-}
 
-// Whether the question has a yes at state s.
-fn answer<F: Map, G: Map<L = F::L>>(
-    question: Question,
-    full: &F,
-    folded: &G,
-    classes: &[u32],
-    s: u32,
-) -> bool
-    requires sized { length classes.now ≡ (F.Map.meaning full.now).size }
-    requires state { s < count (F.Map.meaning full.now) (G.Map.meaning folded.now) question }
-    ensures { Decides result (Asks F.L.Look.sign F.L.Look.same (F.Map.meaning full.now) (G.Map.meaning folded.now) classes.now question s) }
-{
-    match question {
-        Question::Class => classes[s as usize] < folded.size(),
-        Question::Alike => looks_alike(full, s, folded, classes[s as usize]),
-        Question::Forth => moves_forth(full, folded, classes, s),
-        Question::Back => moves_back(full, folded, classes, s),
-        Question::Start => !full.is_start(s) || folded.is_start(classes[s as usize]),
-        Question::Started => !folded.is_start(s) || has_start(full, classes, s),
-        Question::Onto => has_state(classes, s),
+    // Whether the class of s is a start if s is one.
+    fn starts_forth(&self, s: u32) -> bool
+        requires { s < length self.now.classes.now }
+        ensures { Decides result (StartsForth F.L.Look.sign F.L.Look.same (F.Map.meaning self.now.full.now) (G.Map.meaning self.now.folded.now) self.now.classes.now s) }
+    {
+        !self.full.is_start(s) || self.folded.is_start(self.classes[s as usize])
     }
-}
 
-// How many states the question is asked of.
-fn asked_of<F: Map, G: Map<L = F::L>>(question: Question, full: &F, folded: &G) -> u32
-    ensures { result ≡ count (F.Map.meaning full.now) (G.Map.meaning folded.now) question }
-{
-    match question {
-        Question::Started => folded.size(),
-        Question::Onto => folded.size(),
-        _ => full.size(),
+    // Whether a start has class d.
+    fn has_start(&self, d: u32) -> bool
+        ensures { Decides result ((s : ℕ) × (s < (F.Map.meaning self.now.full.now).size) × ((F.Map.meaning self.now.full.now).start s ≡ true) × (class_of self.now.classes.now s ≡ d)) }
+    {
+        (0..self.full.size()).any(|s| self.full.is_start(s) && self.classes[s as usize] == d)
     }
-}
 
-// The lowest state at which the question has a no.
-pub(crate) fn lowest_no<F: Map, G: Map<L = F::L>>(
-    question: Question,
-    full: &F,
-    folded: &G,
-    classes: &[u32],
-) -> Option<u32>
-    requires { length classes.now ≡ (F.Map.meaning full.now).size }
-    ensures { Lowest (Asks F.L.Look.sign F.L.Look.same (F.Map.meaning full.now) (G.Map.meaning folded.now) classes.now question) (count (F.Map.meaning full.now) (G.Map.meaning folded.now) question) result }
-{
-    for s in 0..asked_of(question, full, folded) {
-        if !answer(question, full, folded, classes, s) {
-            return Some(s);
-        }
+    // Whether d is the class of a start if it is a start.
+    fn starts_back(&self, d: u32) -> bool
+        ensures { Decides result (StartsBack F.L.Look.sign F.L.Look.same (F.Map.meaning self.now.full.now) (G.Map.meaning self.now.folded.now) self.now.classes.now d) }
+    {
+        !self.folded.is_start(d) || self.has_start(d)
     }
-    None
+
+    // Whether d is the class of a state.
+    fn is_class(&self, d: u32) -> bool
+        ensures { Decides result (IsClass F.L.Look.sign F.L.Look.same (F.Map.meaning self.now.full.now) (G.Map.meaning self.now.folded.now) self.now.classes.now d) }
+    {
+        self.classes.contains(&d)
+    }
+
+    // Asks each question of all states before the next; the first no decides.
+    pub(crate) fn ask(&self) -> Result<(), FoldFault>
+        ensures { Decided F.L.Look.sign F.L.Look.same (F.Map.meaning self.now.full.now) (G.Map.meaning self.now.folded.now) self.now.classes.now (result_err result) }
+    {
+        let states = self.full.size();
+        let classes = self.folded.size();
+        ask_all(states, |s| self.has_class(s), FoldFault::NoClass)?;
+        ask_all(states, |s| self.looks_alike(s), FoldFault::OtherLook)?;
+        ask_all(states, |s| self.moves_forth(s), FoldFault::MoveLost)?;
+        ask_all(states, |s| self.moves_back(s), FoldFault::MoveAdded)?;
+        ask_all(states, |s| self.starts_forth(s), FoldFault::StartLost)?;
+        ask_all(classes, |d| self.starts_back(d), FoldFault::StartAdded)?;
+        ask_all(classes, |d| self.is_class(d), FoldFault::NotAClass)?;
+        Ok(())
+    }
 }

@@ -1,130 +1,155 @@
 // Maps and tables in a case. A listed map has its states parted by `;`, each a look, a start and the targets, parted by `,`. A switch
-// map begins with its bits, visible, start-on and start-off masks; after each `;` stand the four masks of a command.
+// map begins with its bits, visible, start-on and start-off masks; after each `;` stand the four masks of a command. The two halves of
+// a joint map are parted by `+`.
+use joint::pair::JointMap;
+use listed::table::ListedMap;
+use look::Look;
+use look::level::LevelLook;
+use look::switch::SwitchLook;
 use std::alloc::{AllocError, Global};
 use switches::command::Command;
+use switches::made::SwitchMap;
 use switches::panel::Panel;
 use text::number::read_number;
-use text::split::split_first;
-
-// The bytes up to the next blank, and those after it.
-pub(crate) fn word(rest: &[u8]) -> (&[u8], &[u8]) {
-    match split_first(rest, b' ') {
-        (first, Some(more)) => (first, more),
-        (first, None) => (first, &rest[0..0]),
-    }
-}
 
 // The numbers between commas; what is no number is left out.
-pub(crate) fn read_numbers(heap: Global, bytes: &[u8]) -> Result<Vec<u32>, AllocError> {
-    let mut found = Vec::new(heap);
-    let mut rest = Some(bytes);
-    for _ in 0..bytes.len() + 1 {
-        let Some(now) = rest else {
-            break;
-        };
-        let (first, more) = split_first(now, b',');
-        if let Some(n) = read_number(first) {
-            found.push(n)?;
+pub(crate) fn read_numbers(heap: Global, text: &str) -> Result<Vec<u32>, AllocError> {
+    text.split(',')
+        .filter_map(|field| read_number(field.as_bytes()))
+        .collect(heap)
+}
+
+// A kind of look that a case writes as a number.
+pub(crate) trait Numbered: Look {
+    fn of(number: u32) -> Self;
+}
+
+impl Numbered for SwitchLook {
+    fn of(number: u32) -> Self {
+        SwitchLook { marks: number }
+    }
+}
+
+impl Numbered for LevelLook {
+    // The cue times 256, and the level.
+    fn of(number: u32) -> Self {
+        let [_, high, low, level] = number.to_be_bytes();
+        LevelLook {
+            cue: u16::from_be_bytes([high, low]),
+            level,
         }
-        rest = more;
     }
-    Ok(found)
 }
 
-// The four tables of a listed map, with its looks as numbers.
+// The four tables of a listed map.
 #[derive(Drop)]
-pub(crate) struct FourTables {
-    pub(crate) looks: Vec<u32>,
-    pub(crate) starts: Vec<u8>,
-    pub(crate) firsts: Vec<u32>,
-    pub(crate) targets: Vec<u32>,
+pub(crate) struct Tables<L> {
+    looks: Vec<L>,
+    starts: Vec<u8>,
+    firsts: Vec<u32>,
+    targets: Vec<u32>,
 }
 
-// Appends a state to the tables.
-fn add_state(tables: &mut FourTables, fields: &[u32]) -> Result<(), AllocError> {
-    if let [look, start, targets @ ..] = fields {
-        tables.looks.push(*look)?;
-        tables.starts.push((*start & 1) as u8)?;
-        tables.targets.extend_from_slice(targets)?;
-        tables.firsts.push((tables.targets.len() & 0xffff) as u32)?;
-    }
-    Ok(())
-}
-
-// The tables of a listed map.
-pub(crate) fn read_tables(heap: Global, bytes: &[u8]) -> Result<FourTables, AllocError> {
-    let mut tables = FourTables {
-        looks: Vec::new(heap),
-        starts: Vec::new(heap),
-        firsts: Vec::new(heap),
-        targets: Vec::new(heap),
-    };
-    tables.firsts.push(0)?;
-    let mut rest = Some(bytes);
-    for _ in 0..bytes.len() + 1 {
-        let Some(now) = rest else {
-            break;
+impl<L: Numbered> Tables<L> {
+    pub(crate) fn read(heap: Global, text: &str) -> Result<Self, AllocError> {
+        let mut tables = Tables {
+            looks: Vec::new(heap),
+            starts: Vec::new(heap),
+            firsts: Vec::new(heap),
+            targets: Vec::new(heap),
         };
-        let (state, more) = split_first(now, b';');
-        let fields = read_numbers(heap, state)?;
-        add_state(&mut tables, fields.as_slice())?;
-        rest = more;
+        tables.firsts.push(0)?;
+        for state in text.split(';') {
+            tables.add_state(&read_numbers(heap, state)?)?;
+        }
+        Ok(tables)
     }
-    Ok(tables)
+
+    fn add_state(&mut self, fields: &[u32]) -> Result<(), AllocError> {
+        if let [look, start, targets @ ..] = fields {
+            self.looks.push(L::of(*look))?;
+            self.starts.push(u8::from(*start % 2 == 1))?;
+            self.targets.extend_from_slice(targets)?;
+            let end = u32::try_from(self.targets.len()).unwrap_or(u32::MAX);
+            self.firsts.push(end)?;
+        }
+        Ok(())
+    }
+
+    pub(crate) fn map(&self) -> ListedMap<'_, L> {
+        ListedMap::new(&self.looks, &self.starts, &self.firsts, &self.targets)
+    }
 }
 
 // A panel of switches and its commands.
 #[derive(Drop)]
 pub(crate) struct Switches {
-    pub(crate) panel: Panel,
-    pub(crate) commands: Vec<Command>,
+    panel: Panel,
+    commands: Vec<Command>,
 }
 
 // The panel that four numbers are; one without switches where there are not four.
 fn panel_of(fields: &[u32]) -> Panel {
-    match fields {
-        [bits, visible, start_on, start_off] => Panel {
-            bits: *bits,
-            visible: *visible,
-            start_on: *start_on,
-            start_off: *start_off,
-        },
-        _ => Panel {
-            bits: 0,
-            visible: 0,
-            start_on: 0,
-            start_off: 0,
-        },
+    let [bits, visible, start_on, start_off] = match fields {
+        [bits, visible, start_on, start_off] => [*bits, *visible, *start_on, *start_off],
+        _ => [0; 4],
+    };
+    Panel {
+        bits,
+        visible,
+        start_on,
+        start_off,
     }
 }
 
-// Appends the command that four numbers are.
-fn add_command(commands: &mut Vec<Command>, fields: &[u32]) -> Result<(), AllocError> {
-    if let [need_on, need_off, turn_on, turn_off] = fields {
-        commands.push(Command {
+// The command that four numbers are.
+fn command_of(fields: &[u32]) -> Option<Command> {
+    match fields {
+        [need_on, need_off, turn_on, turn_off] => Some(Command {
             need_on: *need_on,
             need_off: *need_off,
             turn_on: *turn_on,
             turn_off: *turn_off,
-        })?;
+        }),
+        _ => None,
     }
-    Ok(())
 }
 
-// The switches of a switch map.
-pub(crate) fn switches_of(heap: Global, bytes: &[u8]) -> Result<Switches, AllocError> {
-    let (first, mut rest) = split_first(bytes, b';');
-    let fields = read_numbers(heap, first)?;
-    let panel = panel_of(fields.as_slice());
-    let mut commands = Vec::new(heap);
-    for _ in 0..bytes.len() {
-        let Some(now) = rest else {
-            break;
-        };
-        let (command, more) = split_first(now, b';');
-        let masks = read_numbers(heap, command)?;
-        add_command(&mut commands, masks.as_slice())?;
-        rest = more;
+impl Switches {
+    pub(crate) fn read(heap: Global, text: &str) -> Result<Self, AllocError> {
+        let mut parts = text.split(';');
+        let panel = panel_of(&read_numbers(heap, parts.next().unwrap_or(""))?);
+        let mut commands = Vec::new(heap);
+        for part in parts {
+            if let Some(command) = command_of(&read_numbers(heap, part)?) {
+                commands.push(command)?;
+            }
+        }
+        Ok(Switches { panel, commands })
     }
-    Ok(Switches { panel, commands })
+
+    pub(crate) fn map(&self) -> SwitchMap<'_> {
+        SwitchMap::new(self.panel, &self.commands)
+    }
+}
+
+// The tables of the two halves of a joint map.
+#[derive(Drop)]
+pub(crate) struct Halves {
+    left: Tables<SwitchLook>,
+    right: Tables<SwitchLook>,
+}
+
+impl Halves {
+    pub(crate) fn read(heap: Global, text: &str) -> Result<Self, AllocError> {
+        let (left, right) = text.split_once('+').unwrap_or((text, ""));
+        Ok(Halves {
+            left: Tables::read(heap, left)?,
+            right: Tables::read(heap, right)?,
+        })
+    }
+
+    pub(crate) fn map(&self) -> JointMap<ListedMap<'_, SwitchLook>, ListedMap<'_, SwitchLook>> {
+        JointMap::new(self.left.map(), self.right.map())
+    }
 }

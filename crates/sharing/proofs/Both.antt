@@ -1,5 +1,5 @@
 -- Calls on two sessions side by side keep them so. Assumes nothing.
-use Rattle.std.proofs.Common.{◌≡◌, ℕ, ◌<◌, ◌≤◌, Bool, true, ltb, ◌⊎◌, List, [], ◌∷◌, ◌++◌, map, length, sym, refl, ap, ◌∙◌, subst, ap₂, subst₂, inl, inr, arith}
+use Rattle.std.proofs.Common.{◌≡◌, ℕ, ◌<◌, ◌≤◌, Bool, true, ltb, ◌⊎◌, List, [], ◌∷◌, ◌++◌, length, sym, refl, ap, ◌∙◌, subst, ap₂, inl, inr, arith}
 use Rattle.std.proofs.lemmas.List.{map_push}
 use Rattle.std.proofs.lemmas.Bool.{cases_lt, lt-ltb, cond-true, le-ltb, cond-false}
 use Rattle.std.specs.List.{AllByRecursion}
@@ -17,9 +17,9 @@ use Rattle.map.specs.Meaning.{Meaning, Bounded, structure}
 use Rattle.stl.specs.Structures.{Structure}
 use Rattle.sharing.proofs.Chains.{folds_stand}
 use Rattle.sharing.specs.Accepts.{class_of, Accepts}
-use Rattle.sharing.specs.Called.{CalledBoth, AfterBoth}
+use Rattle.sharing.specs.Called.{AfterBoth}
 use Rattle.sharing.specs.Pairs.{ForWitness, SameRoom, SideBySide}
-use Rattle.sharing.specs.Played.{Sides, Played, Since, PlayedBoth, AfterAll}
+use Rattle.sharing.specs.Played.{Sides, Played, Since, AfterAll}
 use Rattle.sharing.specs.Through.{read, asked_through}
 
 -- the tables are as long as they were

@@ -1,7 +1,8 @@
 -- An accepted table is a fold, and a chain of accepted tables is one accepted table. Assumes nothing.
-use Rattle.std.proofs.Common.{◌≡◌, ℕ, zero, suc, ◌<◌, Bool, true, false, List, [], ◌∷◌, length, Some, None, Option, sym, refl, ap, ◌∙◌, subst, subst₂, le_of_suc-le-suc, not-suc-le-zero, arith}
+use Rattle.std.proofs.Common.{◌≡◌, ℕ, ◌<◌, Bool, true, false, List, Some, None, Option, sym, refl, ap, ◌∙◌, subst, subst₂, arith}
 use lib.ListN.{length-map}
 use Rattle.std.proofs.lemmas.Bool.{both_ways}
+use Rattle.std.proofs.lemmas.List.{get_or-map}
 use Rattle.map.proofs.Moves.{well_formed}
 use Rattle.map.specs.Meaning.{Meaning, Bounded, sign_of, structure}
 use Rattle.stl.specs.Folds.{Folds}
@@ -10,12 +11,6 @@ use Rattle.sharing.proofs.Sharing.{share}
 use Rattle.sharing.specs.Accepts.{class_of, same_look, Accepts}
 use Rattle.sharing.specs.Chains.{chained, Chain, one, more}
 use Rattle.sharing.specs.Claims.{FoldsStand, ChainsStand}
-
--- the class in a chained table
-pub chained_at : (first second : List ℕ) (s : ℕ) → s < length first → class_of (chained first second) s ≡ class_of second (class_of first s)
-chained_at [] second s h = absurd (not-suc-le-zero h)
-chained_at (c ∷ first) second zero h = refl
-chained_at (c ∷ first) second (suc s) h = chained_at first second s (le_of_suc-le-suc h)
 
 module _ {L : Type 0} (sign : L → ℕ → Bool) (same : L → L → Bool) where
   module _ (agree : (a b : L) → same a b ≡ true → (k : ℕ) → sign a k ≡ sign b k) where
@@ -76,7 +71,7 @@ module _ {L : Type 0} (sign : L → ℕ → Bool) (same : L → L → Bool) wher
     }
       where
         at : (s : ℕ) → s < full.size → class_of (chained first second) s ≡ class_of second (class_of first s)
-        at s h = chained_at first second s (omega (arith, upper.sized))
+        at s h = get_or-map (class_of second) first s 0 0 (omega (arith, upper.sized))
 
         target : (s : ℕ) → s < full.size → (t : ℕ) → Move (structure sign full) s t → t < full.size
         target s h t move = (well_formed sign full b).targets s t h move

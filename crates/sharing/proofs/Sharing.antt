@@ -12,7 +12,6 @@ use Rattle.calls.specs.Effects.{Tables, lent}
 use Rattle.calls.specs.Histories.{Moment, History, opened, called, short, Kept, Right}
 use Rattle.calls.specs.declared.call.Answer.{Answer}
 use Rattle.calls.specs.declared.call.Call.{Call}
-use Rattle.calls.specs.declared.call.Call.TheVariants as call
 use Rattle.lengths.specs.Sheets.{label_of}
 use Rattle.look.proofs.Bits.{same_word}
 use Rattle.map.specs.Questions.{first_no}
@@ -26,8 +25,8 @@ use Rattle.stl.specs.Structures.{Structure, WellFormed}
 use Rattle.stl.specs.Until.{Shortest}
 use Rattle.sharing.proofs.Idle.{idle, to_idle, from_idle}
 use Rattle.sharing.specs.Claims.{FoldsShare}
-use Rattle.sharing.specs.Pairs.{ForWitness, SameRoom, SameCall, Pairwise, SideBySide}
-use Rattle.sharing.specs.Shares.{Through, Agree, Shared, Share}
+use Rattle.sharing.specs.Pairs.{ForWitness, SameRoom, SameCall, Pairwise}
+use Rattle.sharing.specs.Shares.{Through, Agree, Share}
 
 module _ (full folded : Structure) (class : ℕ → ℕ) (well : WellFormed full) (welled : WellFormed folded) (fold : Folds full folded class) where
   -- both have a state, or neither has

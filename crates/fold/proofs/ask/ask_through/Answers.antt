@@ -1,10 +1,9 @@
-use Rattle.std.proofs.Common.{◌≡◌, subst}
+use Rattle.std.proofs.Common.{subst}
 use Rattle.calls.specs.Effects.{alone, Gives}
 use Rattle.calls.specs.declared.call.Answer.TheVariants as answer
 use Rattle.calls.specs.declared.call.Call.TheVariants as call
 use Rattle.map.specs.Meaning.{structure}
 use Rattle.session.specs.Sessions.{state, answered}
-use Rattle.fold.specs.Asking.{asked}
 use Rattle.fold.proofs.Asking.{label_asked, speaks}
 use Rattle.fold.proofs.ask.ask_through.Goals as goal
 

@@ -1,9 +1,6 @@
 use Rattle.std.proofs.Common.{arith}
-use Rattle.fold.proofs.Chaining.{chained_more, chained_all}
+use Rattle.fold.proofs.Chaining.{chained_more}
 use Rattle.fold.proofs.chain.write_chain.Goals as goal
 
 pub loop-i-preserved : goal.loop-i-preserved
 loop-i-preserved c = chained_more c.args.first.now c.args.second.now c.loop-i.out c.loop-i.i (omega arith) (omega arith) c.loop-i.invariant
-
-pub returns : goal.returns
-returns c = chained_all c.args.first.now c.args.second.now c.loop-i.out c.loop-i.i (omega arith) (omega arith) c.loop-i.invariant
