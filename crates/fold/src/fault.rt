@@ -2,13 +2,14 @@
 ghost use Rattle.fold.specs.Faults.{refusal};
 
 use map::refusal::Refusal;
+use thiserror::Error;
 
 // Each case is the no to one question. Neither carries a value.
-#[derive(Clone, Copy, PartialEq, Eq, Debug)]
+#[derive(Clone, Copy, PartialEq, Eq, Debug, Error)]
 pub enum ChainFault {
-    // the output has not exactly as many entries as the first table
+    #[error("the output must have exactly as many entries as the first table")]
     WrongLength,
-    // an entry of the first table has no entry in the second
+    #[error("an entry of the first table has no entry in the second")]
     NoEntry,
 }
 

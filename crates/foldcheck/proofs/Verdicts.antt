@@ -5,7 +5,7 @@ use Rattle.std.specs.Option.{unwrap_or}
 use Rattle.map.specs.Meaning.{Meaning}
 use Rattle.sharing.specs.Accepts.{Accepts}
 use Rattle.foldcheck.specs.Faults.{refusal}
-use Rattle.foldcheck.specs.Questions.{LowestNo}
+use Rattle.map.specs.Searches.{LowestNo}
 use Rattle.foldcheck.specs.Verdicts.{Before, Yes, Asked, FirstNo, Judges, Decided}
 use Rattle.foldcheck.specs.declared.fault.FoldFault.{FoldFault}
 use Rattle.foldcheck.specs.declared.fault.FoldFault.TheVariants.{WrongLength, NoClass, OtherLook, MoveLost, MoveAdded, StartLost, StartAdded, NotAClass}

@@ -1,5 +1,5 @@
--- What is found by asking one state after another. Assumes nothing.
-use Rattle.std.specs.Prelude.{◌≡◌, ℕ, ◌<◌, Bool, true, false, List, length, Some, None, Option, slice_index}
+-- A question of a state that is asked for each move. Assumes nothing.
+use Rattle.std.specs.Prelude.{◌≡◌, ℕ, List}
 use Rattle.map.specs.Meaning.{Meaning, structure}
 use Rattle.sharing.specs.Accepts.{class_of}
 use Rattle.stl.specs.Structures.{Move}
@@ -7,13 +7,3 @@ use Rattle.stl.specs.Structures.{Move}
 -- a move from s to a state of class d
 abbrev pub MovesInto : {L : Type 0} → (L → ℕ → Bool) → Meaning L → List ℕ → ℕ → ℕ → Type 0
 MovesInto sign full table s d = (t : ℕ) × Move (structure sign full) s t × (class_of table t ≡ d)
-
--- the lowest of the first n numbers at which a test says no, if it does at one
-pub record LowestNo (Says : ℕ → Bool → Type 0) (n : ℕ) (found : Option ℕ) : Type 0 where
-  pub none : found ≡ None → (i : ℕ) → i < n → Says i true
-  pub some : (s : ℕ) → found ≡ Some s → (s < n) × Says s false × ((j : ℕ) → j < s → Says j true)
-
--- the first entry of a list at which a test says yes, if it does at one
-pub record FirstPick (xs : List ℕ) (Says : ℕ → Bool → Type 0) (found : Option ℕ) : Type 0 where
-  pub none : found ≡ None → (i : ℕ) → i < length xs → Says (slice_index xs i) false
-  pub some : (t : ℕ) → found ≡ Some t → (i : ℕ) × (i < length xs) × (slice_index xs i ≡ t) × Says t true × ((j : ℕ) → j < i → Says (slice_index xs j) false)

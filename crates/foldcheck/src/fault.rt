@@ -2,25 +2,26 @@
 ghost use Rattle.foldcheck.specs.Faults.{refusal};
 
 use map::refusal::Refusal;
+use thiserror::Error;
 
 // Each case is the no to one question, with the lowest state that has one.
-#[derive(Clone, Copy, PartialEq, Eq, Debug)]
+#[derive(Clone, Copy, PartialEq, Eq, Debug, Error)]
 pub enum FoldFault {
-    // the table has not exactly as many entries as the full map has states
+    #[error("the table must have exactly as many entries as the full map has states")]
     WrongLength,
-    // the class of the state is no folded state
+    #[error("the class of the state is no folded state")]
     NoClass(u32),
-    // the state and its class have not the same look
+    #[error("the state and its class have not the same look")]
     OtherLook(u32),
-    // a move of the state has no move between the classes
+    #[error("a move of the state has no move between the classes")]
     MoveLost(u32),
-    // a move of the state's class is no move of the state
+    #[error("a move of the state's class is no move of the state")]
     MoveAdded(u32),
-    // the class of the start is no start
+    #[error("the class of the start is no start")]
     StartLost(u32),
-    // the folded start is the class of no start
+    #[error("the folded start is the class of no start")]
     StartAdded(u32),
-    // the folded state is the class of no state
+    #[error("the folded state is the class of no state")]
     NotAClass(u32),
 }
 

@@ -5,4 +5,3 @@ pub mod accepted;
 pub mod fault;
 pub mod offer;
 mod questions;
-mod search;

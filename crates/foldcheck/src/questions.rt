@@ -1,16 +1,16 @@
 // The questions that are asked of each state.
 ghost use Rattle.std.specs.Prelude.{◌≡◌, ℕ, ◌<◌, true, length, Some, None, Decides, MatchOption, MatchResult};
 ghost use Rattle.std.specs.Result.{result_err};
-ghost use Rattle.foldcheck.specs.Questions.{MovesInto, LowestNo};
+ghost use Rattle.foldcheck.specs.Questions.{MovesInto};
 ghost use Rattle.foldcheck.specs.Verdicts.{Decided};
 ghost use Rattle.map.specs.Meaning.{structure};
+ghost use Rattle.map.specs.Searches.{LowestNo};
 ghost use Rattle.sharing.specs.Accepts.{class_of, HasClass, LooksAlike, MovesForth, MovesBack, StartsForth, StartsBack, IsClass};
 
 use crate::fault::FoldFault;
-use crate::search::{find_target, lowest_no};
 use look::Look;
 use map::Map;
-use map::read::moves_to;
+use map::read::{first_target, lowest_no, moves_to};
 
 // Asks at each number below n, and refuses at the lowest that has a no.
 fn ask_all<Q: Fn(u32) -> bool, E, F: FnOnce(u32) -> E>(n: u32, ask: Q, fault: F) -> Result<(), E>
@@ -77,14 +77,14 @@ impl<'a, F: Map, G: Map<L = F::L>> Folding<'a, F, G> {
     {
         let class = self.classes[s as usize];
         let lost = |t: u32| !moves_to(self.folded, class, self.classes[t as usize]);
-        find_target(self.full, s, lost).is_none()
+        first_target(self.full, s, lost).is_none()
     }
 
     // Whether s moves to a state of class d.
     fn moves_into(&self, s: u32, d: u32) -> bool
         ensures { Decides result (MovesInto F.L.Look.sign (F.Map.meaning self.now.full.now) self.now.classes.now s d) }
     {
-        find_target(self.full, s, |t| self.classes[t as usize] == d).is_some()
+        first_target(self.full, s, |t| self.classes[t as usize] == d).is_some()
     }
 
     // Whether s moves wherever its class moves.
@@ -93,7 +93,7 @@ impl<'a, F: Map, G: Map<L = F::L>> Folding<'a, F, G> {
         ensures { Decides result (MovesBack F.L.Look.sign F.L.Look.same (F.Map.meaning self.now.full.now) (G.Map.meaning self.now.folded.now) self.now.classes.now s) }
     {
         let class = self.classes[s as usize];
-        find_target(self.folded, class, |d| !self.moves_into(s, d)).is_none()
+        first_target(self.folded, class, |d| !self.moves_into(s, d)).is_none()
     }
 
     // Whether the class of s is a start if s is one.

@@ -5,6 +5,7 @@ use foldcheck::offer::offer;
 use look::level::LevelLook;
 use look::switch::SwitchLook;
 use map::Map;
+use map::refusal::Refusal;
 use std::alloc::{AllocError, Global};
 use std::fmt;
 
@@ -21,7 +22,7 @@ impl fmt::Display for Said {
     fn fmt<W: fmt::Write>(&self, f: &mut fmt::Formatter<W>) -> fmt::Result {
         match self {
             Said::Accepted => f.write_str("accepted"),
-            Said::Refused(fault) => match fault.state() {
+            Said::Refused(fault) => match fault.carried() {
                 Some(s) => write!(f, "{} {s}", fault.number()),
                 None => write!(f, "{}", fault.number()),
             },

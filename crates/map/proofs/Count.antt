@@ -1,8 +1,8 @@
 -- The lowest no and the greatest value. Assumes nothing.
 use Rattle.std.proofs.Common.{◌≡◌, ℕ, zero, suc, ◌+◌, ◌<◌, ◌≤◌, max, Bool, true, false, cond, Some, None, Option, sym, refl, ap, ◌∙◌, subst, ⊎_elim, add-one, arith}
-use Rattle.std.specs.Prelude.{MatchOption}
 use Rattle.std.proofs.lemmas.Bool.{cases_Bool, cases_lt, cases_eq, cond-true, cond-false}
 use Rattle.map.specs.Counts.{or_else, lowest_no, greatest, CountLaws}
+use Rattle.map.specs.Searches.{LowestNo}
 
 -- nothing is both there and not there
 pub never_none : {X : Type 0} {P : Type 0} (x : X) → Some x ≡ None → P
@@ -53,10 +53,10 @@ module _ (f : ℕ → Bool) where
   is_no zero i e = never_none i (sym e)
   is_no (suc n) i e = found n i (lowest_no f n) refl (λ k. is_no n k) e
 
-  -- what is the lowest number with a no, said in any way, is the lowest no
-  pub lowest_as : {Yes No : ℕ → Type 0} (n : ℕ) (o : Option ℕ) → MatchOption o ((i : ℕ) → i < n → Yes i) (λ i. (i < n) × No i × ((j : ℕ) → j < i → Yes j)) → ((i : ℕ) → i < n → Yes i → f i ≡ true) → ((i : ℕ) → i < n → No i → f i ≡ false) → o ≡ lowest_no f n
-  lowest_as n None m right wrong = sym (none_no n (λ i h. right i h (m i h)))
-  lowest_as n (Some i) m right wrong = sym (no_is n i m.0 (wrong i m.0 m.1) (λ j h. right j (omega (arith, m.0)) (m.2 j h)))
+  -- what a test that is led by Says finds is the lowest no, where Says agrees with f
+  pub lowest_as : {Says : ℕ → Bool → Type 0} (n : ℕ) (o : Option ℕ) → LowestNo Says n o → ((i : ℕ) → i < n → Says i true → f i ≡ true) → ((i : ℕ) → i < n → Says i false → f i ≡ false) → o ≡ lowest_no f n
+  lowest_as n None p right wrong = sym (none_no n (λ i h. right i h (p.none refl i h)))
+  lowest_as n (Some i) p right wrong = let x = p.some i refl in sym (no_is n i x.0 (wrong i x.0 x.1) (λ j h. right j (omega (arith, x.0)) (x.2 j h)))
 
 module _ (f : ℕ → ℕ) where
   pub above : (n i : ℕ) → i < n → f i ≤ greatest f n

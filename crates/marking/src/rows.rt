@@ -10,14 +10,14 @@ use lengths::labels::{labelled, with_bit};
 use lengths::rounds::{NONE, Until};
 use look::Look;
 use map::Map;
-use map::read::{sign_at, some_target};
+use map::read::{first_target, sign_at};
 use stl::row::Row;
 
 // Whether a move from s leads to a state with the label of row a.
 fn some_move<M: Map>(map: &M, sheet: &[u64], a: u32, s: u32) -> bool
     ensures { Decides result ((t : ℕ) × Move (structure M.L.Look.sign (M.meaning map.now)) s t × by_sheet sheet.now a t) }
 {
-    some_target(map, s, |t| labelled(sheet, a, t))
+    first_target(map, s, |t| labelled(sheet, a, t)).is_some()
 }
 
 // Whether the row is satisfied at s. An until is read off the table of its lengths.

@@ -1,9 +1,6 @@
-use Rattle.std.proofs.Common.{rules, of_calls}
-use Rattle.std.proofs.lemmas.Bool.{true_from_ne_false}
+use Rattle.std.proofs.Common.{◌≡◌, rules, of_calls}
+use Rattle.map.proofs.Searches.{same_target, some_pick}
 use Rattle.map.proofs.read.moves_to.Goals as goal
 
 pub returns : goal.returns
-returns g c = (
-  λ e. let p = c.some_target.ensures.some e in search (rules, of_calls),
-  λ m. true_from_ne_false _ (λ e. let q = c.some_target.ensures.none e c.args.t m in search (rules, of_calls)),
-)
+returns g c = rw c.is_some.ensures (same_target ((g.M.Map.meaning c.args.map.now).list c.args.s) c.args.t (some_pick _ _ (λ x. x ≡ c.args.t) _ c.first_target.ensures (λ x b h. search (rules, of_calls))))
