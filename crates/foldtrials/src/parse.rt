@@ -88,12 +88,13 @@ pub(crate) struct Switches {
     commands: Vec<Command>,
 }
 
-// The panel that four numbers are; one without switches where there are not four.
-fn panel_of(fields: &[u32]) -> Panel {
-    let [bits, visible, start_on, start_off] = match fields {
-        [bits, visible, start_on, start_off] => [*bits, *visible, *start_on, *start_off],
-        _ => [0; 4],
-    };
+// The four masks of a panel or a command; none where there are not four numbers.
+fn read_masks(heap: Global, text: &str) -> Result<Option<[u32; 4]>, AllocError> {
+    let masks = read_numbers(heap, text)?;
+    Ok(<[u32; 4]>::try_from(masks.as_slice()).ok())
+}
+
+fn panel_of([bits, visible, start_on, start_off]: [u32; 4]) -> Panel {
     Panel {
         bits,
         visible,
@@ -102,27 +103,25 @@ fn panel_of(fields: &[u32]) -> Panel {
     }
 }
 
-// The command that four numbers are.
-fn command_of(fields: &[u32]) -> Option<Command> {
-    match fields {
-        [need_on, need_off, turn_on, turn_off] => Some(Command {
-            need_on: *need_on,
-            need_off: *need_off,
-            turn_on: *turn_on,
-            turn_off: *turn_off,
-        }),
-        _ => None,
+fn command_of([need_on, need_off, turn_on, turn_off]: [u32; 4]) -> Command {
+    Command {
+        need_on,
+        need_off,
+        turn_on,
+        turn_off,
     }
 }
 
 impl Switches {
     pub(crate) fn read(heap: Global, text: &str) -> Result<Self, AllocError> {
         let mut parts = text.split(';');
-        let panel = panel_of(&read_numbers(heap, parts.next().unwrap_or(""))?);
+        let masks = read_masks(heap, parts.next().unwrap_or(""))?;
+        // no switches where there are not four
+        let panel = panel_of(masks.unwrap_or([0; 4]));
         let mut commands = Vec::new(heap);
         for part in parts {
-            if let Some(command) = command_of(&read_numbers(heap, part)?) {
-                commands.push(command)?;
+            if let Some(masks) = read_masks(heap, part)? {
+                commands.push(command_of(masks))?;
             }
         }
         Ok(Switches { panel, commands })
