@@ -8,7 +8,7 @@ use map::Map;
 use std::alloc::{AllocError, Global};
 use std::fmt;
 
-// What is said of a case.
+// What is said of a case, printed as the line that it writes.
 #[derive(Clone, Copy, PartialEq, Eq, Debug)]
 pub(crate) enum Said {
     Accepted,
