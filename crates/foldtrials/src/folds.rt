@@ -9,7 +9,7 @@ use map::refusal::Refusal;
 use std::alloc::{AllocError, Global};
 use std::fmt;
 
-// What is said of a case.
+// What is said of a case, printed as the line that it writes.
 #[derive(Clone, Copy, PartialEq, Eq, Debug)]
 pub(crate) enum Said {
     Accepted,

@@ -21,6 +21,7 @@ pub(crate) fn read_numbers(heap: Global, text: &str) -> Result<Vec<u32>, AllocEr
 
 // A kind of look that a case writes as a number.
 pub(crate) trait Numbered: Look {
+    // The look of the number.
     fn of(number: u32) -> Self;
 }
 
@@ -51,6 +52,7 @@ pub(crate) struct Tables<L> {
 }
 
 impl<L: Numbered> Tables<L> {
+    // Reads the states in turn.
     pub(crate) fn read(heap: Global, text: &str) -> Result<Self, AllocError> {
         let mut tables = Tables {
             looks: Vec::new(heap),
@@ -65,6 +67,7 @@ impl<L: Numbered> Tables<L> {
         Ok(tables)
     }
 
+    // Appends a state; fields that are no look and start are left out.
     fn add_state(&mut self, fields: &[u32]) -> Result<(), AllocError> {
         if let [look, start, targets @ ..] = fields {
             self.looks.push(L::of(*look))?;
@@ -76,6 +79,7 @@ impl<L: Numbered> Tables<L> {
         Ok(())
     }
 
+    // The map of the tables.
     pub(crate) fn map(&self) -> ListedMap<'_, L> {
         ListedMap::new(&self.looks, &self.starts, &self.firsts, &self.targets)
     }
@@ -88,12 +92,14 @@ pub(crate) struct Switches {
     commands: Vec<Command>,
 }
 
-// The panel that four numbers are; one without switches where there are not four.
-fn panel_of(fields: &[u32]) -> Panel {
-    let [bits, visible, start_on, start_off] = match fields {
-        [bits, visible, start_on, start_off] => [*bits, *visible, *start_on, *start_off],
-        _ => [0; 4],
-    };
+// The four masks of a panel or a command; none where there are not four numbers.
+fn read_masks(heap: Global, text: &str) -> Result<Option<[u32; 4]>, AllocError> {
+    let masks = read_numbers(heap, text)?;
+    Ok(<[u32; 4]>::try_from(masks.as_slice()).ok())
+}
+
+// The panel of four masks.
+fn panel_of([bits, visible, start_on, start_off]: [u32; 4]) -> Panel {
     Panel {
         bits,
         visible,
@@ -102,32 +108,33 @@ fn panel_of(fields: &[u32]) -> Panel {
     }
 }
 
-// The command that four numbers are.
-fn command_of(fields: &[u32]) -> Option<Command> {
-    match fields {
-        [need_on, need_off, turn_on, turn_off] => Some(Command {
-            need_on: *need_on,
-            need_off: *need_off,
-            turn_on: *turn_on,
-            turn_off: *turn_off,
-        }),
-        _ => None,
+// The command of four masks.
+fn command_of([need_on, need_off, turn_on, turn_off]: [u32; 4]) -> Command {
+    Command {
+        need_on,
+        need_off,
+        turn_on,
+        turn_off,
     }
 }
 
 impl Switches {
+    // Reads the panel, and then the commands.
     pub(crate) fn read(heap: Global, text: &str) -> Result<Self, AllocError> {
         let mut parts = text.split(';');
-        let panel = panel_of(&read_numbers(heap, parts.next().unwrap_or(""))?);
+        let masks = read_masks(heap, parts.next().unwrap_or(""))?;
+        // no switches where there are not four
+        let panel = panel_of(masks.unwrap_or([0; 4]));
         let mut commands = Vec::new(heap);
         for part in parts {
-            if let Some(command) = command_of(&read_numbers(heap, part)?) {
-                commands.push(command)?;
+            if let Some(masks) = read_masks(heap, part)? {
+                commands.push(command_of(masks))?;
             }
         }
         Ok(Switches { panel, commands })
     }
 
+    // The map of the panel and its commands.
     pub(crate) fn map(&self) -> SwitchMap<'_> {
         SwitchMap::new(self.panel, &self.commands)
     }
@@ -141,6 +148,7 @@ pub(crate) struct Halves {
 }
 
 impl Halves {
+    // Reads both halves; without a `+` the right one has no state.
     pub(crate) fn read(heap: Global, text: &str) -> Result<Self, AllocError> {
         let (left, right) = text.split_once('+').unwrap_or((text, ""));
         Ok(Halves {
@@ -149,6 +157,7 @@ impl Halves {
         })
     }
 
+    // The joint of both maps.
     pub(crate) fn map(&self) -> JointMap<ListedMap<'_, SwitchLook>, ListedMap<'_, SwitchLook>> {
         JointMap::new(self.left.map(), self.right.map())
     }
