@@ -6,7 +6,7 @@ ghost use Rattle.text.specs.Written.{LineLaws};
 
 use crate::field::{read_one, read_two};
 use crate::kind::read_row;
-use crate::number::{NUMBERS, STARTS};
+use crate::number::MAX_START;
 use stl::row::Row;
 
 // What a line says.
@@ -57,29 +57,28 @@ impl LineFault {
 fn read_map(rest: &[u8]) -> Result<Line, LineFault>
     ensures { result ≡ map_line (fields rest.now) }
 {
-    Ok(Line::Map(read_one(rest, 2, NUMBERS)?))
+    read_one(rest, 2, u32::MAX).map(Line::Map)
 }
 
 // The look and the start of a state.
 fn read_state(rest: &[u8]) -> Result<Line, LineFault>
     ensures { result ≡ state_line (fields rest.now) }
 {
-    let (look, start) = read_two(rest, 2, NUMBERS, STARTS)?;
-    Ok(Line::State(look, start as u8))
+    read_two(rest, 2, u32::MAX, MAX_START).map(|(look, start)| Line::State(look, start as u8))
 }
 
 // A target.
 fn read_target(rest: &[u8]) -> Result<Line, LineFault>
     ensures { result ≡ target_line (fields rest.now) }
 {
-    Ok(Line::Target(read_one(rest, 2, NUMBERS)?))
+    read_one(rest, 2, u32::MAX).map(Line::Target)
 }
 
 // A row.
 fn read_rule(rest: &[u8]) -> Result<Line, LineFault>
     ensures { result ≡ rule_line (fields rest.now) }
 {
-    Ok(Line::Rule(read_row(rest)?))
+    read_row(rest).map(Line::Rule)
 }
 
 // What a line says, or what is wrong with it; its byte 10 is left out.
