@@ -1,1 +1,14 @@
 -- Lines taken one after another, one step. Assumes nothing.
+use Rattle.std.proofs.Common.{◌≡◌, ℕ, ◌+◌, List, ◌∷◌, Ok, Err, Result, ap, ◌∙◌, sym, arith}
+use Rattle.text.specs.declared.line.Line.{Line}
+use Rattle.text.specs.declared.line.LineFault.{LineFault}
+use Rattle.reader.specs.Readings.{Taken, taken, taken_by, goes_on, takes}
+
+module _ {X : Type 0} (step : X → Line → Taken X) (n : ℕ) (x y : X) (rest : List (Result Line LineFault)) where
+  goes_so : (said : Result Line LineFault) → taken (Ok tt) y ≡ taken_by step x said → takes step (n + 1) y rest ≡ takes step n x (said ∷ rest)
+  goes_so (Err fault) e = grind arith
+  goes_so (Ok line) e = ap (λ (t : Taken X). goes_on n t.left t.trouble (λ z. takes step (n + 1) z rest)) e
+
+  -- a line that was taken, and those after it
+  pub went_on : (said : Result Line LineFault) (lines : List (Result Line LineFault)) → lines ≡ said ∷ rest → taken (Ok tt) y ≡ taken_by step x said → takes step (n + 1) y rest ≡ takes step n x lines
+  went_on said lines first e = goes_so said e ∙ ap (takes step n x) (sym first)
