@@ -2,9 +2,10 @@
 ghost use Rattle.std.specs.Prelude.{◌≡◌, ◌≤◌, length, IfOk, None};
 ghost use Rattle.calls.specs.Histories.{Kept};
 ghost use Rattle.checking.specs.Outputs.{Wrote, ReportByLogic, OfMap, structure_read, Checks};
-ghost use Rattle.listed.specs.Tables.{tables, questions};
+ghost use Rattle.listed.specs.Tables.{questions};
 ghost use Rattle.map.specs.Meaning.{structure};
 ghost use Rattle.map.specs.Questions.{first_no};
+ghost use Rattle.maptext.specs.Lent.{tables_in};
 ghost use Rattle.maptext.specs.MapTexts.{part};
 ghost use Rattle.session.specs.Sessions.{state};
 
@@ -15,6 +16,7 @@ use look::switch::SwitchLook;
 use map::Map;
 use maptext::progress::MapSize;
 use maptext::read::read_map;
+use maptext::tables::MapTables;
 use report::write::report;
 use ruletext::read::read_rules;
 use session::held::Session;
@@ -50,27 +52,14 @@ fn check_map<M: Map>(map: &M, rules: &[u8], sheet: &mut [u64], out: &mut [u8]) -
 }
 
 // Writes what there is to say of a map that was read, and a rule text.
-fn check_tables<'a>(
-    size: MapSize,
-    looks: &'a [SwitchLook],
-    starts: &'a [u8],
-    firsts: &'a [u32],
-    targets: &'a [u32],
-    rules: &[u8],
-    out: &mut [u8],
-) -> usize
-    requires made { first_no (questions (part size (tables looks.now starts.now firsts.now targets.now))) ≡ None }
-    requires small { length looks.now ≤ 1024 }
+fn check_tables(tables: &MapTables<'_>, size: MapSize, rules: &[u8], out: &mut [u8]) -> usize
+    requires made { first_no (questions (part size (tables_in tables.now))) ≡ None }
+    requires small { length tables.now.looks.now ≤ 1024 }
     requires room { 1024 ≤ length out.old }
-    ensures { Wrote (OfMap (structure_read size (tables looks.now starts.now firsts.now targets.now)) rules.now) out.old out.new result }
+    ensures { Wrote (OfMap (structure_read size (tables_in tables.now)) rules.now) out.old out.new result }
 {
     let mut sheet = [0; 1024];
-    check_map(
-        &size.map(looks, starts, firsts, targets),
-        rules,
-        &mut sheet,
-        out,
-    )
+    check_map(&tables.map(size), rules, &mut sheet, out)
 }
 
 // What the program writes of a map text and a rule text: the report of all rows, or the line of a fault. It is written to the
@@ -86,8 +75,14 @@ pub fn check(map: &[u8], rules: &[u8], out: &mut [u8]) -> Result<usize, SaveFaul
     let mut starts = [0; 1024];
     let mut firsts = [0; 1025];
     let mut targets = [0; 8192];
-    match read_map(map, &mut looks, &mut starts, &mut firsts, &mut targets) {
+    let mut tables = MapTables {
+        looks: &mut looks,
+        starts: &mut starts,
+        firsts: &mut firsts,
+        targets: &mut targets,
+    };
+    match read_map(map, &mut tables) {
         Err(fault) => Ok(write_text_fault(out, b'M', fault)),
-        Ok(size) => Ok(check_tables(size, &looks, &starts, &firsts, &targets, rules, out)),
+        Ok(size) => Ok(check_tables(&tables, size, rules, out)),
     }
 }

@@ -5,6 +5,7 @@ use look::switch::SwitchLook;
 use map::Map;
 use maptext::progress::MapSize;
 use maptext::read::read_map;
+use maptext::tables::MapTables;
 use reader::fault::TextFault;
 use saving::maps::write_map;
 use std::alloc::{AllocError, Global};
@@ -37,13 +38,13 @@ impl Tables {
 
     // Reads a map text into the tables.
     fn read(&mut self, text: &[u8]) -> Result<MapSize, TextFault> {
-        read_map(
-            text,
-            self.looks.as_mut_slice(),
-            self.starts.as_mut_slice(),
-            self.firsts.as_mut_slice(),
-            self.targets.as_mut_slice(),
-        )
+        let mut lent = MapTables {
+            looks: self.looks.as_mut_slice(),
+            starts: self.starts.as_mut_slice(),
+            firsts: self.firsts.as_mut_slice(),
+            targets: self.targets.as_mut_slice(),
+        };
+        read_map(text, &mut lent)
     }
 }
 

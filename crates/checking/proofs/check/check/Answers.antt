@@ -1,8 +1,9 @@
-use Rattle.std.proofs.Common.{◌≡◌, None, sym, subst, arith}
-use Rattle.listed.specs.Tables.{Tables, tables, questions}
+use Rattle.std.proofs.Common.{◌≡◌, None, sym, ap, subst, arith}
+use Rattle.listed.specs.Tables.{Tables, questions}
 use Rattle.look.specs.declared.switch.SwitchLook.{SwitchLook}
 use Rattle.map.specs.Questions.{first_no}
 use Rattle.maptext.proofs.Whole.{read_made}
+use Rattle.maptext.specs.Lent.{tables_in, places}
 use Rattle.maptext.specs.MapTexts.{part}
 use Rattle.checking.specs.Outputs.{fault_text, blank}
 use Rattle.checking.proofs.Fronts.{front_within}
@@ -15,7 +16,7 @@ check_tables-requires c =
     let read = c.in-Ok.ensures in
     record {
       made = subst (λ (t : Tables SwitchLook). first_no (questions (part n t)) ≡ None) (sym read.held) (read_made n c.args.map.now blank (sym read.answer));
-      small = omega arith;
+      small = omega (arith, ap (λ p. p.0.1) read.same);
       room = omega arith;
     }
 
@@ -29,8 +30,7 @@ returns-in-Err c =
 
 pub returns-in-Ok : goal.returns-in-Ok
 returns-in-Ok c =
-    let last = c.read_map.new in
-    let t = tables last.looks last.starts last.firsts last.targets in
+    let t = tables_in c.read_map.new.tables in
     let wrote = c.check_tables.ensures in
     record {
       checks = checked c.args.map.now c.args.rules.now c.args.out.now c.check_tables.new.out c.check_tables.result c.in-Ok.size t
