@@ -1,6 +1,6 @@
 -- What a report says is what the logic says. Assumes nothing.
-use Rattle.std.proofs.Common.{◌≡◌, ℕ, ◌<◌, ◌≤◌, true, false, cond, leb, List, [], ◌∷◌, ◌++◌, length, get_or, drop, Some, None, Ok, Err, Result, sym, refl, ap, ◌∙◌, subst, ⊎_elim, arith}
-use Rattle.std.proofs.lemmas.Bool.{cond-true, cond-false, cases_Bool, leb-true, le-leb}
+use Rattle.std.proofs.Common.{◌≡◌, ℕ, ◌<◌, ◌≤◌, leb, List, ◌++◌, length, get_or, drop, Ok, Err, Result, sym, refl, ap, ◌∙◌, subst, ⊎_elim, arith}
+use Rattle.std.proofs.lemmas.Bool.{cond-true, cond-false, cases_Bool, le-leb}
 use Rattle.calls.proofs.Carried.{then}
 use Rattle.calls.proofs.Itself.{same, itself}
 use Rattle.calls.proofs.Questions.{for_operands}
@@ -9,13 +9,13 @@ use Rattle.calls.specs.Histories.{Kept}
 use Rattle.lengths.specs.Sheets.{by_sheet}
 use Rattle.map.proofs.Asked.{passes}
 use Rattle.report.specs.Reports.{Reported, Given, questions, Decided, Reports, Fits}
-use Rattle.report.specs.Results.{Right, nothing, Finds}
+use Rattle.report.specs.Results.{Right, nothing}
 use Rattle.report.specs.Texts.{report_text}
 use Rattle.report.specs.declared.fault.ReportFault.{ReportFault}
 use Rattle.report.specs.declared.fault.ReportFault.TheVariants.{NoRoom}
 use Rattle.report.specs.declared.found.Found.{Found}
 use Rattle.stl.proofs.FoldLengths.{greatest_forth}
-use Rattle.stl.specs.Rows.{row_at, Reach, by_logic}
+use Rattle.stl.specs.Rows.{row_at, by_logic}
 use Rattle.stl.specs.Structures.{Structure, WellFormed}
 use Rattle.stl.specs.Until.{Greatest}
 use Rattle.stl.specs.declared.row.Row.{Row}
@@ -47,13 +47,13 @@ fronted text before after n p = ⊎_elim
     let e = p.answer ∙ cond-true (leb (length text) (length before)) (Ok (length text)) (Err NoRoom) t in
     let q : n ≡ length text = cc in
     record { long = sym q; holds = p.bytes ∙ cond-true (leb (length text) (length before)) (text ++ drop (length text) before) before t ∙ ap (λ m. text ++ drop m before) (sym q) })
-    (λ f. let e = p.answer ∙ cond-false (leb (length text) (length before)) (Ok (length text)) (Err NoRoom) f in let z : ◌≡◌ {A = ℕ} 0 1 = cc in absurd (omega arith))
+    (λ f. let e = p.answer ∙ cond-false (leb (length text) (length before)) (Ok (length text)) (Err NoRoom) f in grind arith)
     (cases_Bool (leb (length text) (length before)))
 
 -- a report that is not given is not given for want of room
 no_room : (text before after : List ℕ) (fault : ReportFault) → Reported text before after (Err fault) → ◌≡◌ {A = Result ℕ ReportFault} (Err fault) (Err NoRoom)
 no_room text before after fault p = ⊎_elim
-    (λ t. let e = p.answer ∙ cond-true (leb (length text) (length before)) (Ok (length text)) (Err NoRoom) t in let z : ◌≡◌ {A = ℕ} 0 1 = cc in absurd (omega arith))
+    (λ t. let e = p.answer ∙ cond-true (leb (length text) (length before)) (Ok (length text)) (Err NoRoom) t in grind arith)
     (λ f. p.answer ∙ cond-false (leb (length text) (length before)) (Ok (length text)) (Err NoRoom) f)
     (cases_Bool (leb (length text) (length before)))
 

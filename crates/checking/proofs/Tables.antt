@@ -1,5 +1,5 @@
 -- The map that was read. Assumes nothing.
-use Rattle.std.proofs.Common.{◌≡◌, ℕ, ◌+◌, ◌≤◌, List, length, take, None, Option, ap, ◌∙◌, subst, arith}
+use Rattle.std.proofs.Common.{◌≡◌, ℕ, ◌+◌, ◌≤◌, List, length, take, None, Option, ap, ◌∙◌, arith}
 use Rattle.std.proofs.lemmas.List.{length-take}
 use Rattle.listed.specs.Tables.{Tables, tables, listed}
 use Rattle.listed.specs.declared.fault.ListedFault.{ListedFault}

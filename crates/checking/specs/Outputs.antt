@@ -4,7 +4,7 @@ use Rattle.calls.specs.Opening.{fresh}
 use Rattle.listed.specs.Tables.{Tables, tables, listed}
 use Rattle.look.specs.Switch.{switch_sign}
 use Rattle.look.specs.declared.switch.SwitchLook.{SwitchLook}
-use Rattle.map.specs.Meaning.{Meaning, structure}
+use Rattle.map.specs.Meaning.{structure}
 use Rattle.maptext.specs.MapTexts.{map_read, part}
 use Rattle.maptext.specs.declared.progress.MapSize.{MapSize}
 use Rattle.reader.specs.Faults.{number_of, field_of}

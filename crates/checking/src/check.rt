@@ -1,20 +1,19 @@
 // The checker over two texts.
-ghost use Rattle.std.specs.Prelude.{◌≡◌, ◌≤◌, length, IfOk, None};
+ghost use Rattle.std.specs.Prelude.{◌≡◌, ◌≤◌, length, IfOk};
 ghost use Rattle.calls.specs.Histories.{Kept};
-ghost use Rattle.checking.specs.Outputs.{Wrote, ReportByLogic, OfMap, structure_read, Checks};
-ghost use Rattle.listed.specs.Tables.{tables, questions};
+ghost use Rattle.checking.specs.Outputs.{Wrote, ReportByLogic, OfMap, Output, blank, Checks};
+ghost use Rattle.checking.specs.Told.{Told};
 ghost use Rattle.map.specs.Meaning.{structure};
-ghost use Rattle.map.specs.Questions.{first_no};
-ghost use Rattle.maptext.specs.MapTexts.{part};
+ghost use Rattle.maptext.specs.Lent.{tables_in};
 ghost use Rattle.session.specs.Sessions.{state};
 
-use crate::fault::{write_fault, write_text_fault};
+use crate::fault::FaultLine;
 use crate::marks::mark_all;
 use look::Look;
 use look::switch::SwitchLook;
 use map::Map;
-use maptext::progress::MapSize;
 use maptext::read::read_map;
+use maptext::tables::MapTables;
 use report::write::report;
 use ruletext::read::read_rules;
 use session::held::Session;
@@ -27,50 +26,39 @@ fn write_report<M: Map>(session: &mut Session, map: &M, sheet: &mut [u64], out: 
     ensures { Wrote (ReportByLogic (structure M.L.Look.sign (M.meaning map.now)) (state session.old).rows) out.old out.new result }
 {
     mark_all(session, map, sheet);
-    match report(session, map, sheet, out) {
-        Ok(n) => n,
-        Err(_) => 0,
-    }
+    report(session, map, sheet, out).unwrap()
 }
 
-// Writes what there is to say of a map and a rule text; how many bytes it has.
-fn check_map<M: Map>(map: &M, rules: &[u8], sheet: &mut [u64], out: &mut [u8]) -> usize
+// Writes the report of the rows of a rule text on a map; how many bytes it has, or the line that is to be written.
+fn check_map<M: Map>(
+    map: &M,
+    rules: &[u8],
+    sheet: &mut [u64],
+    out: &mut [u8],
+) -> Result<usize, FaultLine>
     requires words { length sheet.old ≡ 1024 }
     requires small { (M.meaning map.now).size ≤ 1024 }
     requires room { 1024 ≤ length out.old }
-    ensures { Wrote (OfMap (structure M.L.Look.sign (M.meaning map.now)) rules.now) out.old out.new result }
+    ensures { Told (OfMap (structure M.L.Look.sign (M.meaning map.now)) rules.now) out.old out.new result }
 {
-    match Session::open(map, sheet) {
-        Err(fault) => write_fault(out, b'-', fault.number(), 0, 0),
-        Ok(mut session) => match read_rules(rules, &mut session, map, sheet) {
-            Err(fault) => write_text_fault(out, b'R', fault),
-            Ok(()) => write_report(&mut session, map, sheet, out),
-        },
-    }
+    let mut session = Session::open(map, sheet)?;
+    read_rules(rules, &mut session, map, sheet).map_err(|fault| FaultLine::of_text(b'R', fault))?;
+    Ok(write_report(&mut session, map, sheet, out))
 }
 
-// Writes what there is to say of a map that was read, and a rule text.
-fn check_tables<'a>(
-    size: MapSize,
-    looks: &'a [SwitchLook],
-    starts: &'a [u8],
-    firsts: &'a [u32],
-    targets: &'a [u32],
+// The same of a map text that is read into blank tables.
+fn check_texts(
+    map: &[u8],
     rules: &[u8],
+    tables: &mut MapTables<'_>,
     out: &mut [u8],
-) -> usize
-    requires made { first_no (questions (part size (tables looks.now starts.now firsts.now targets.now))) ≡ None }
-    requires small { length looks.now ≤ 1024 }
+) -> Result<usize, FaultLine>
+    requires empty { tables_in tables.old ≡ blank }
     requires room { 1024 ≤ length out.old }
-    ensures { Wrote (OfMap (structure_read size (tables looks.now starts.now firsts.now targets.now)) rules.now) out.old out.new result }
+    ensures { Told (Output map.now rules.now) out.old out.new result }
 {
-    let mut sheet = [0; 1024];
-    check_map(
-        &size.map(looks, starts, firsts, targets),
-        rules,
-        &mut sheet,
-        out,
-    )
+    let size = read_map(map, tables).map_err(|fault| FaultLine::of_text(b'M', fault))?;
+    check_map(&tables.map(size), rules, &mut [0; 1024], out)
 }
 
 // What the program writes of a map text and a rule text: the report of all rows, or the line of a fault. It is written to the
@@ -86,8 +74,14 @@ pub fn check(map: &[u8], rules: &[u8], out: &mut [u8]) -> Result<usize, SaveFaul
     let mut starts = [0; 1024];
     let mut firsts = [0; 1025];
     let mut targets = [0; 8192];
-    match read_map(map, &mut looks, &mut starts, &mut firsts, &mut targets) {
-        Err(fault) => Ok(write_text_fault(out, b'M', fault)),
-        Ok(size) => Ok(check_tables(size, &looks, &starts, &firsts, &targets, rules, out)),
+    let mut tables = MapTables {
+        looks: &mut looks,
+        starts: &mut starts,
+        firsts: &mut firsts,
+        targets: &mut targets,
+    };
+    match check_texts(map, rules, &mut tables, out) {
+        Ok(n) => Ok(n),
+        Err(line) => Ok(line.write(out)),
     }
 }

@@ -1,2 +1,4 @@
 pub mod Steps
 pub mod MapTexts
+pub mod Lent
+pub mod Readers

@@ -1,21 +1,21 @@
 -- What a map text means: what reading it answers, and what the tables hold after. Assumes nothing.
-use Rattle.std.specs.Prelude.{◌≡◌, ℕ, zero, suc, ◌+◌, ◌<◌, ◌≤◌, Bool, true, false, cond, ◌&&◌, List, [], ◌∷◌, length, take, Some, None, Ok, Err, Option, Result, ◌==◌, nat_le, slice_set}
+use Rattle.std.specs.Prelude.{◌≡◌, ℕ, zero, suc, ◌+◌, ◌<◌, ◌≤◌, Bool, true, false, cond, ◌&&◌, List, [], ◌∷◌, length, take, Some, None, Ok, Err, Option, Result, ◌==◌, slice_set}
 use Rattle.listed.specs.Tables.{Tables, tables, questions}
 use Rattle.listed.specs.declared.fault.ListedFault.{ListedFault}
 use Rattle.listed.specs.declared.fault.ListedFault.TheVariants.{TooManyLooks, WrongLengths, WrongFirst, WrongTarget}
 use Rattle.look.specs.declared.switch.SwitchLook.{SwitchLook}
 use Rattle.map.specs.Questions.{first_no}
-use Rattle.reader.specs.Readings.{Outcome, takes, at_line}
+use Rattle.reader.specs.Readings.{Outcome, at_line, text_read}
 use Rattle.reader.specs.Texts.{text_lines}
 use Rattle.reader.specs.declared.fault.TextFault.{TextFault}
-use Rattle.reader.specs.declared.fault.Trouble.TheVariants.{TooLong, Incomplete}
+use Rattle.reader.specs.declared.fault.Trouble.TheVariants.{Incomplete}
 use Rattle.reader.specs.declared.fault.Trouble.TheVariants.{Map as NoMap}
 use Rattle.reader.specs.declared.place.Place.{Place}
 use Rattle.reader.specs.declared.place.Place.TheVariants.{BeforeMap, AfterMap, InStates, InRules}
 use Rattle.text.specs.declared.line.Line.{Line}
 use Rattle.text.specs.declared.line.Line.TheVariants.{Map, State, Target, Rule}
 use Rattle.text.specs.declared.line.LineFault.{LineFault}
-use Rattle.maptext.specs.Steps.{Reading, reading, begun, step}
+use Rattle.maptext.specs.Steps.{Reading, begun, step}
 use Rattle.maptext.specs.declared.progress.MapSize.{MapSize}
 use Rattle.maptext.specs.declared.progress.Progress.{Progress}
 
@@ -84,14 +84,9 @@ ended lines x None = cond (complete x.at)
     (made_of lines x)
     (refused x.held (at_line (length lines + 1) Incomplete))
 
--- the lines of a text, taken from the first on
+-- a text, read line by line
 abbrev pub all_taken : List ℕ → Tables SwitchLook → Outcome Reading
-all_taken text t = takes step 1 (begun t) (text_lines text)
-
--- the lines taken, by what their taker answers: how far it came, and one more than there are lines; or the first fault
-abbrev pub Read : List ℕ → Tables SwitchLook → Result (Progress × ℕ) TextFault → Tables SwitchLook → Type 0
-Read text t (Ok came) u = (all_taken text t ≡ record { left = reading came.0 u; fault = None }) × (came.1 ≡ length (text_lines text) + 1)
-Read text t (Err fault) u = ((all_taken text t).fault ≡ Some fault) × ((all_taken text t).left.held ≡ u)
+all_taken text t = text_read step (begun t) text
 
 -- there is room in the tables for what the M line said, and for the targets so far
 pub record Within (x : Reading) : Type 0 where
@@ -102,6 +97,4 @@ pub record Within (x : Reading) : Type 0 where
 
 -- what a map text means, for tables that hold t before
 abbrev pub map_read : List ℕ → Tables SwitchLook → MapRead
-map_read text t = cond (nat_le (length text) 60000)
-    (ended (text_lines text) (all_taken text t).left (all_taken text t).fault)
-    (refused t (at_line 0 TooLong))
+map_read text t = ended (text_lines text) (all_taken text t).left (all_taken text t).fault

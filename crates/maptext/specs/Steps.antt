@@ -1,5 +1,5 @@
 -- What a line of a map text does. Assumes nothing.
-use Rattle.std.specs.Prelude.{ℕ, ◌+◌, Bool, true, false, ◌&&◌, List, [], ◌∷◌, length, is_some, Some, None, Ok, Err, Option, Result, nat_le, nat_lt, slice_set}
+use Rattle.std.specs.Prelude.{◌+◌, Bool, true, ◌&&◌, List, [], ◌∷◌, length, is_some, Some, None, Option, nat_le, nat_lt, slice_set}
 use Rattle.listed.specs.Tables.{Tables, tables}
 use Rattle.look.specs.declared.switch.SwitchLook.{SwitchLook}
 use Rattle.map.specs.Questions.{Question, ask, first_no}
@@ -7,7 +7,7 @@ use Rattle.reader.specs.Places.{stands}
 use Rattle.reader.specs.Readings.{Taken}
 use Rattle.reader.specs.declared.fault.Trouble.{Trouble}
 use Rattle.reader.specs.declared.fault.Trouble.TheVariants.{OutOfPlace, NoSpace}
-use Rattle.reader.specs.declared.place.Place.TheVariants.{BeforeMap, AfterMap, InStates, InRules}
+use Rattle.reader.specs.declared.place.Place.TheVariants.{BeforeMap, AfterMap, InStates}
 use Rattle.text.specs.declared.line.Line.{Line}
 use Rattle.text.specs.declared.line.Line.TheVariants.{Map, State, Target, Rule}
 use Rattle.maptext.specs.declared.progress.Progress.{Progress}
@@ -55,8 +55,3 @@ unless (Some trouble) after before = before
 -- one line taken
 abbrev pub step : Reading → Line → Taken Reading
 step x line = record { left = unless (first_no (line_questions x line)) (does x line) x; trouble = first_no (line_questions x line) }
-
--- a line taken, by what its taker answers and what the tables hold after
-abbrev pub taken : Progress → Result Progress Trouble → Tables SwitchLook → Taken Reading
-taken at (Ok p) t = record { left = reading p t; trouble = None }
-taken at (Err trouble) t = record { left = reading at t; trouble = Some trouble }

@@ -5,3 +5,4 @@ pub mod made;
 pub mod progress;
 pub mod read;
 mod step;
+pub mod tables;

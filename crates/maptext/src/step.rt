@@ -1,101 +1,100 @@
 // One line of a map text.
-ghost use Rattle.std.specs.Prelude.{◌≡◌, ◌+◌, ◌≤◌, true, length};
-ghost use Rattle.listed.specs.Tables.{tables};
-ghost use Rattle.maptext.specs.Steps.{reading, space, does, step, taken};
+ghost use Rattle.std.specs.Prelude.{◌≡◌, ◌+◌, ◌≤◌, true};
+ghost use Rattle.maptext.specs.Readers.{reading_of, Names, names};
+ghost use Rattle.maptext.specs.MapTexts.{Within};
+ghost use Rattle.maptext.specs.Steps.{Reading, space, does, step};
 
 use crate::progress::Progress;
+use crate::tables::MapTables;
 use look::switch::SwitchLook;
 use reader::fault::Trouble;
 use reader::place::{Place, stand};
+use reader::reading::Reader;
 use text::line::Line;
 
-// Whether the tables have space for a line: for an M line, all but the targets.
-fn has_space(
-    at: Progress,
-    line: Line,
-    looks: &[SwitchLook],
-    starts: &[u8],
-    firsts: &[u32],
-    targets: &[u32],
-) -> bool
-    ensures { result ≡ space (reading at (tables looks.now starts.now firsts.now targets.now)) line }
-{
-    match line {
-        Line::Map(size) => {
-            let n = size as usize;
-            n <= looks.len() && n <= starts.len() && n < firsts.len()
+// What reads a map text: how far it came, and the tables that it writes.
+#[derive(Drop)]
+pub(crate) struct MapReader<'a, 'b> {
+    pub(crate) at: Progress,
+    pub(crate) tables: &'a mut MapTables<'b>,
+}
+
+impl<'a, 'b> MapReader<'a, 'b> {
+    // Whether the tables have space for a line: for an M line, all but the targets.
+    fn has_space(&self, line: Line) -> bool
+        ensures { result ≡ space (reading_of self.now) line }
+    {
+        let MapTables {
+            looks,
+            starts,
+            firsts,
+            targets,
+        } = &*self.tables;
+        match line {
+            Line::Map(size) => {
+                let n = size as usize;
+                n <= looks.len() && n <= starts.len() && n < firsts.len()
+            }
+            Line::State(_, _) => {
+                let s = self.at.states as usize;
+                s < looks.len() && s < starts.len() && s < firsts.len()
+            }
+            Line::Target(_) => (self.at.moves as usize) < targets.len(),
+            Line::Rule(_) => true,
         }
-        Line::State(_, _) => {
-            let s = at.states as usize;
-            s < looks.len() && s < starts.len() && s < firsts.len()
+    }
+
+    // Writes what a line says into the tables, and counts it.
+    fn write(&mut self, line: Line)
+        requires room { space (reading_of self.old) line ≡ true }
+        requires few { self.old.at.states + self.old.at.moves ≤ 60000 }
+        ensures written { reading_of self.new ≡ does (reading_of self.old) line }
+        ensures same { names self.new ≡ names self.old }
+    {
+        match line {
+            Line::Map(size) => {
+                self.at.place = Place::AfterMap;
+                self.at.size = size;
+            }
+            Line::State(look, start) => {
+                let s = self.at.states as usize;
+                self.tables.looks[s] = SwitchLook { marks: look };
+                self.tables.starts[s] = start;
+                self.tables.firsts[s] = self.at.moves;
+                self.at.place = Place::InStates;
+                self.at.states += 1;
+            }
+            Line::Target(target) => {
+                self.tables.targets[self.at.moves as usize] = target;
+                self.at.moves += 1;
+            }
+            Line::Rule(_) => {}
         }
-        Line::Target(_) => (at.moves as usize) < targets.len(),
-        Line::Rule(_) => true,
     }
 }
 
-// Writes what a line says into the tables, and counts it.
-fn write_line(
-    at: Progress,
-    line: Line,
-    looks: &mut [SwitchLook],
-    starts: &mut [u8],
-    firsts: &mut [u32],
-    targets: &mut [u32],
-) -> Progress
-    requires room { space (reading at (tables looks.old starts.old firsts.old targets.old)) line ≡ true }
-    requires few { at.states + at.moves ≤ 60000 }
-    ensures { reading result (tables looks.new starts.new firsts.new targets.new) ≡ does (reading at (tables looks.old starts.old firsts.old targets.old)) line }
-{
-    match line {
-        Line::Map(size) => Progress {
-            place: Place::AfterMap,
-            size,
-            states: at.states,
-            moves: at.moves,
-        },
-        Line::State(look, start) => {
-            let s = at.states as usize;
-            looks[s] = SwitchLook { marks: look };
-            starts[s] = start;
-            firsts[s] = at.moves;
-            Progress {
-                place: Place::InStates,
-                size: at.size,
-                states: at.states + 1,
-                moves: at.moves,
-            }
-        }
-        Line::Target(target) => {
-            targets[at.moves as usize] = target;
-            Progress {
-                place: at.place,
-                size: at.size,
-                states: at.states,
-                moves: at.moves + 1,
-            }
-        }
-        Line::Rule(_) => at,
-    }
-}
+impl<'a, 'b> Reader for MapReader<'a, 'b> {
+    ghost Held = { Reading };
 
-// Takes one line: may it stand here, and have the tables space for it?
-pub(crate) fn take(
-    at: Progress,
-    line: Line,
-    looks: &mut [SwitchLook],
-    starts: &mut [u8],
-    firsts: &mut [u32],
-    targets: &mut [u32],
-) -> Result<Progress, Trouble>
-    requires few { at.states + at.moves ≤ 60000 }
-    ensures { taken at result (tables looks.new starts.new firsts.new targets.new) ≡ step (reading at (tables looks.old starts.old firsts.old targets.old)) line }
-{
-    if stand(at.place, line).is_none() {
-        return Err(Trouble::OutOfPlace);
+    ghost held = { reading_of };
+
+    ghost Fixed = { Names };
+
+    ghost fixed = { names };
+
+    ghost step = { λ fixed. step };
+
+    ghost sound = { λ fixed. Within };
+
+    ghost can_take = { λ x n. x.at.states + x.at.moves + n ≤ 60000 };
+
+    // Takes one line: may it stand here, and have the tables space for it?
+    fn take(&mut self, line: Line) -> Result<(), Trouble> {
+        stand(self.at.place, line).ok_or(Trouble::OutOfPlace)?;
+        if !self.has_space(line) {
+            return Err(Trouble::NoSpace);
+        }
+        self.write(line);
+        Ok(())
     }
-    if !has_space(at, line, looks, starts, firsts, targets) {
-        return Err(Trouble::NoSpace);
-    }
-    Ok(write_line(at, line, looks, starts, firsts, targets))
 }

@@ -1,14 +1,13 @@
 -- The lines of a text, one at a time. Assumes nothing.
-use Rattle.std.proofs.Common.{◌≡◌, ℕ, zero, suc, ◌+◌, ◌<◌, List, [], ◌∷◌, ◌++◌, map, length, Some, None, Ok, Err, Option, Result, sym, refl, ap, ◌∙◌, subst, arith}
+use Rattle.std.proofs.Common.{◌≡◌, ℕ, zero, suc, ◌+◌, ◌<◌, ◌≤◌, List, [], ◌∷◌, ◌++◌, map, length, Some, None, Ok, Err, Option, sym, refl, ap, ◌∙◌, arith}
 use Rattle.std.proofs.lemmas.List.{length-append}
 use Rattle.std.specs.Option.{option_map}
-use Rattle.text.proofs.Parting.{parts_first, parts_after, more_parts, split_laws}
+use Rattle.text.proofs.Parting.{parts_first, more_parts, split_laws}
 use Rattle.text.proofs.Writing.{line_laws}
 use Rattle.text.specs.Lines.{line_of}
-use Rattle.text.specs.Split.{before, after, parts, first_line}
+use Rattle.text.specs.Split.{before, after, first_line}
 use Rattle.text.specs.Written.{written_line}
 use Rattle.text.specs.declared.line.Line.{Line}
-use Rattle.text.specs.declared.line.LineFault.{LineFault}
 use Rattle.text.specs.declared.line.LineFault.TheVariants.{NotOfAForm}
 use Rattle.reader.specs.Texts.{unended, lines_in, text_lines, NextLine, written_text, AllFit, TextLaws}
 
@@ -31,7 +30,7 @@ pub split_off : (text line rest : List ℕ) → ◌≡◌ {A = Option (List ℕ 
 split_off text line rest e = by (after 10 text) refl e
   where
     by : (o : Option (List ℕ)) → after 10 text ≡ o → ◌≡◌ {A = Option (List ℕ × List ℕ)} (Some (line, rest)) (option_map (λ r. (before 10 text, r)) o) → NextLine text (Some (line_of line, rest))
-    by None a f = let z : ◌≡◌ {A = ℕ} 0 1 = cc in absurd (omega arith)
+    by None a f = grind arith
     by (Some r) a f =
         let pair : ◌≡◌ {A = List ℕ × List ℕ} (line, rest) (before 10 text, r) = cc in
         let l : line ≡ before 10 text = ap (λ x. x.0) pair in
@@ -45,7 +44,7 @@ none_ended text e = by (after 10 text) refl e
   where
     by : (o : Option (List ℕ)) → after 10 text ≡ o → ◌≡◌ {A = Option (List ℕ × List ℕ)} None (option_map (λ r. (before 10 text, r)) o) → text_lines text ≡ unended text
     by None a f = last_lines text a
-    by (Some r) a f = let z : ◌≡◌ {A = ℕ} 0 1 = cc in absurd (omega arith)
+    by (Some r) a f = grind arith
 
 pub ended_none : (text : List ℕ) → length text ≡ 0 → text_lines text ≡ []
 ended_none [] e = refl
@@ -54,6 +53,22 @@ ended_none (b ∷ bs) e = absurd (omega arith)
 pub ended_some : (text : List ℕ) → (length text ≡ 0 → ⊥) → unended text ≡ Err NotOfAForm ∷ []
 ended_some [] ne = absurd (ne refl)
 ended_some (b ∷ bs) ne = refl
+
+-- a text has no more lines than bytes; n bounds its length
+few_lines : (n : ℕ) (text : List ℕ) → length text < n → length (text_lines text) ≤ length text
+few_lines zero text l = grind arith
+few_lines (suc n) text l = by (λ rest fewer. few_lines n rest (omega arith)) (after 10 text) refl
+  where
+    few_unended : (bs : List ℕ) → length (unended bs) ≤ length bs
+    few_unended [] = omega arith
+    few_unended (b ∷ bs) = omega arith
+
+    by : ((rest : List ℕ) → length rest < length text → length (text_lines rest) ≤ length rest) → (o : Option (List ℕ)) → after 10 text ≡ o → length (text_lines text) ≤ length text
+    by again None a = omega (arith, ap length (last_lines text a), few_unended text)
+    by again (Some rest) a = omega (arith, ap length (line_first text rest a), rest_fewer text rest a, again rest (rest_fewer text rest a))
+
+pub lines_few : (text : List ℕ) → length (text_lines text) ≤ length text
+lines_few text = few_lines (length text + 1) text (omega arith)
 
 -- a text with a written line in front
 line_more : (line : Line) (rest : List ℕ) → text_lines (written_line line ++ (10 ∷ rest)) ≡ line_of (written_line line) ∷ text_lines rest
@@ -70,13 +85,13 @@ reads_back (line ∷ lines) h =
 
 no_lines : (bs : List ℕ) (lines : List Line) → unended bs ≡ map Ok lines → bs ≡ written_text lines
 no_lines [] [] e = refl
-no_lines [] (x ∷ xs) e = let z : ◌≡◌ {A = ℕ} 0 1 = cc in absurd (omega arith)
-no_lines (b ∷ bs) [] e = let z : ◌≡◌ {A = ℕ} 0 1 = cc in absurd (omega arith)
-no_lines (b ∷ bs) (x ∷ xs) e = let z : ◌≡◌ {A = ℕ} 0 1 = cc in absurd (omega arith)
+no_lines [] (x ∷ xs) e = grind arith
+no_lines (b ∷ bs) [] e = grind arith
+no_lines (b ∷ bs) (x ∷ xs) e = grind arith
 
 more_lines : (text rest : List ℕ) → after 10 text ≡ Some rest → ((lines : List Line) → text_lines rest ≡ map Ok lines → rest ≡ written_text lines) →
     (lines : List Line) → line_of (before 10 text) ∷ text_lines rest ≡ map Ok lines → text ≡ written_text lines
-more_lines text rest a back [] e = let z : ◌≡◌ {A = ℕ} 0 1 = cc in absurd (omega arith)
+more_lines text rest a back [] e = grind arith
 more_lines text rest a back (x ∷ xs) e =
     let head : line_of (before 10 text) ≡ Ok x = cc in
     let tail : text_lines rest ≡ map Ok xs = cc in

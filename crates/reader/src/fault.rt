@@ -1,13 +1,15 @@
 // What is wrong in a text, and where.
 ghost use Rattle.std.specs.Prelude.{◌≡◌};
 ghost use Rattle.reader.specs.Faults.{number_of, field_of};
+ghost use Rattle.reader.specs.declared.fault.Trouble.TheVariants as variants;
 
 use calls::fault::SessionFault;
 use listed::fault::ListedFault;
+use map::refusal::Refusal;
 use text::line::LineFault;
 
 // Each case is the no to one question; a fault of a line, a map or a session is handed up whole.
-#[derive(Clone, Copy)]
+#[derive(Clone, Copy, PartialEq, Eq, Debug)]
 pub enum Trouble {
     // the text has more than 60,000 bytes
     TooLong,
@@ -26,10 +28,34 @@ pub enum Trouble {
 }
 
 // The trouble, and its line, counted from 1; 0 where the text is too long.
-#[derive(Clone, Copy)]
+#[derive(Clone, Copy, PartialEq, Eq, Debug)]
 pub struct TextFault {
     pub what: Trouble,
     pub line: u32,
+}
+
+impl From<LineFault> for Trouble {
+    ghost from_gives = { λ fault trouble. trouble ≡ variants.Line fault };
+
+    fn from(fault: LineFault) -> Trouble {
+        Trouble::Line(fault)
+    }
+}
+
+impl From<ListedFault> for Trouble {
+    ghost from_gives = { λ fault trouble. trouble ≡ variants.Map fault };
+
+    fn from(fault: ListedFault) -> Trouble {
+        Trouble::Map(fault)
+    }
+}
+
+impl From<SessionFault> for Trouble {
+    ghost from_gives = { λ fault trouble. trouble ≡ variants.Session fault };
+
+    fn from(fault: SessionFault) -> Trouble {
+        Trouble::Session(fault)
+    }
 }
 
 impl Trouble {
@@ -53,10 +79,7 @@ impl Trouble {
         ensures { result ≡ field_of self }
     {
         match self {
-            Trouble::Line(fault) => match fault.field() {
-                Some(field) => field,
-                None => 0,
-            },
+            Trouble::Line(fault) => fault.carried().unwrap_or(0),
             _ => 0,
         }
     }

@@ -4,3 +4,4 @@
 pub mod fault;
 pub mod next;
 pub mod place;
+pub mod reading;

@@ -1,5 +1,6 @@
-// The next line of a text.
-ghost use Rattle.reader.specs.Texts.{NextLine, TextLaws};
+// The lines of a text.
+ghost use Rattle.reader.specs.Texts.{NextLine, TextLaws, text_lines};
+ghost use Rattle.std.specs.Iterator.{YieldsFirst, item_count};
 ghost use Rattle.std.specs.Option.{option_map};
 
 use text::line::{Line, LineFault, read_line};
@@ -12,13 +13,26 @@ pub fn take_line(text: &[u8]) -> Option<(Result<Line, LineFault>, &[u8])>
 {
     match next_line(text) {
         Some((line, rest)) => Some((read_line(line), rest)),
-        None => {
-            if text.is_empty() {
-                None
-            } else {
-                Some((Err(LineFault::NotOfAForm), &text[0..0]))
-            }
-        }
+        None if text.is_empty() => None,
+        None => Some((Err(LineFault::NotOfAForm), &[])),
+    }
+}
+
+// The lines of a text, from the first on.
+#[derive(Drop)]
+pub struct Lines<'a>(pub &'a [u8]);
+
+impl<'a> Iterator for Lines<'a> {
+    type Item = Result<Line, LineFault>;
+
+    ghost next_gives = { YieldsFirst (λ s. text_lines s.0.now) };
+
+    ghost remaining = { item_count (λ s. text_lines s.0.now) };
+
+    fn next(&mut self) -> Option<Result<Line, LineFault>> {
+        let (said, rest) = take_line(self.0)?;
+        self.0 = rest;
+        Some(said)
     }
 }
 

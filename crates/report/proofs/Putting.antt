@@ -1,9 +1,7 @@
 -- The lines of a report, put one after the other. Assumes nothing.
-use Rattle.std.proofs.Common.{◌≡◌, ℕ, ◌+◌, ◌<◌, List, [], ◌∷◌, ◌++◌, length, get_or, take, drop, Option, sym, ap, ◌∙◌, subst, arith}
+use Rattle.std.proofs.Common.{◌≡◌, ℕ, ◌+◌, ◌<◌, List, [], ◌∷◌, ◌++◌, length, get_or, take, drop, sym, ap, ◌∙◌, arith}
 use Rattle.std.proofs.lemmas.List.{append_assoc, append-nil, length-take-le, take_more, drop_more, take-append-drop}
 use Rattle.text.specs.Numbers.{written}
-use Rattle.writing.specs.Places.{Put}
-use Rattle.writing.specs.declared.pen.Pen.{Pen}
 use Rattle.report.specs.Results.{nothing}
 use Rattle.report.specs.Texts.{word, found_line, report_from, report_text}
 use Rattle.report.specs.declared.found.Found.{Found}
@@ -16,12 +14,8 @@ abbrev pub after_row : Found → List ℕ
 after_row found = (9 ∷ (word found.yes ++ (9 ∷ []))) ++ after_word found
 
 -- a line, part by part
-line_parts : (r : ℕ) (found : Found) → (86 ∷ (9 ∷ [])) ++ (written r ++ after_row found) ≡ found_line r found
+pub line_parts : (r : ℕ) (found : Found) → (86 ∷ (9 ∷ [])) ++ (written r ++ after_row found) ≡ found_line r found
 line_parts r found = simp (append_assoc, append-nil)
-
--- is put where its parts are
-pub line_put : {pen : Pen} {before after : List ℕ} {at : ℕ} {x : Option ℕ} (r : ℕ) (found : Found) → Put pen before at ((86 ∷ (9 ∷ [])) ++ (written r ++ after_row found)) after x → Put pen before at (found_line r found) after x
-line_put {pen} {before} {after} {at} {x} r found p = subst (λ t. Put pen before at t after x) (line_parts r found) p
 
 -- the lines of two lists
 from_append : (r : ℕ) (xs ys : List Found) → report_from r (xs ++ ys) ≡ report_from r xs ++ report_from (r + length xs) ys

@@ -1,13 +1,10 @@
--- A report that is counted, and then written. Assumes nothing.
-use Rattle.std.proofs.Common.{◌≡◌, ℕ, ◌+◌, ◌≤◌, List, length, take, Some, None, Ok, Err, Option, Result, sym, ap, ◌∙◌, subst, arith}
+-- A report that was saved. Assumes nothing.
+use Rattle.std.proofs.Common.{◌≡◌, ℕ, ◌≤◌, List, length, take, Ok, Err, Result, sym, ◌∙◌, subst, arith}
 use Rattle.std.proofs.lemmas.List.{length-take-le, get_or-take}
-use Rattle.std.proofs.lemmas.Bool.{cond-true, cond-false, le-leb, lt-leb}
+use Rattle.std.proofs.lemmas.Bool.{cond-true, le-leb}
 use Rattle.calls.specs.Answers.{State}
 use Rattle.map.proofs.Asked.{passes}
 use Rattle.stl.specs.Structures.{Structure}
-use Rattle.writing.proofs.Joins.{room, no_room, saved, not_saved}
-use Rattle.writing.specs.Places.{Put}
-use Rattle.writing.specs.declared.pen.Pen.TheVariants.{Counts, Writes}
 use Rattle.report.specs.Reports.{Reported, Given, questions, Decided, Reports, Fits}
 use Rattle.report.specs.Results.{Right, nothing, Collected}
 use Rattle.report.specs.Texts.{report_text}
@@ -15,17 +12,6 @@ use Rattle.report.specs.declared.fault.ReportFault.{ReportFault}
 use Rattle.report.specs.declared.fault.ReportFault.TheVariants.{NoRoom}
 use Rattle.report.specs.declared.found.Found.{Found}
 use Rattle.report.proofs.Lengths.{finds_short}
-
-pub reported : (t b m a : List ℕ) (n : ℕ) (r : Option ℕ) → Put Counts b 0 t m (Some n) → Put Writes m 0 t a r → Reported t b a (Ok n)
-reported t b m a n r p q =
-    let fits = room (0 + length t) (length b) n p.ends in
-    let long : n ≡ length t = omega arith in
-    record { answer = ap Ok long ∙ sym (cond-true _ _ _ (le-leb (length t) (length b) (omega arith))); bytes = (saved t b m a n r p q).bytes }
-
-pub not_reported : (t b m : List ℕ) → Put Counts b 0 t m None → Reported t b m (Err NoRoom)
-not_reported t b m p =
-    let full = no_room (0 + length t) (length b) p.ends in
-    record { answer = sym (cond-false _ _ _ (lt-leb (length t) (length b) (omega arith))); bytes = (not_saved t b m p).bytes }
 
 module _ (k : Structure) (st : State) (sheet b a : List ℕ) (x : Result ℕ ReportFault) where
   -- the results that were collected, reported
@@ -49,5 +35,4 @@ module _ (k : Structure) (st : State) (sheet b a : List ℕ) (x : Result ℕ Rep
       let short = finds_short k st sheet p.finds h l p.right in
       let there = cond-true _ (Ok (length (report_text p.finds))) (Err NoRoom) (le-leb (length (report_text p.finds)) (length b) (omega arith)) in
       let said = p.reported.answer in
-      let z : ◌≡◌ {A = ℕ} 0 1 = cc in
-      absurd (omega arith)
+      grind arith

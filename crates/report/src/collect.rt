@@ -21,16 +21,14 @@ fn found_of<M: Map>(session: &Session, map: &M, sheet: &[u64], r: u32) -> Found
     requires marked { r < (state session.now).marked }
     ensures { Right (structure M.L.Look.sign (M.meaning map.now)) (state session.now).rows sheet.now r result }
 {
-    let Ok(yes) = session.verdict(map, sheet, r) else {
-        return NOTHING;
-    };
-    let Ok(reach) = session.reach(map, sheet, r) else {
-        return NOTHING;
-    };
-    Found { yes, reach }
+    Found {
+        yes: session.verdict(map, sheet, r).unwrap(),
+        reach: session.reach(map, sheet, r).unwrap(),
+    }
 }
 
-// Fills the first entries with the results of the marked rows.
+// Fills the first entries with the results of the marked rows. They are written by index: a proof knows nothing of what is
+// written through `iter_mut`.
 pub(crate) fn collect<M: Map>(session: &Session, map: &M, sheet: &[u64], finds: &mut [Found])
     requires words { (M.meaning map.now).size ≤ length sheet.now }
     requires entries { (state session.now).marked ≤ length finds.old }

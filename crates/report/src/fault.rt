@@ -1,14 +1,28 @@
 // Why there is no report.
+ghost use Rattle.std.specs.Prelude.{◌≡◌};
 ghost use Rattle.report.specs.Faults.{refusal};
+ghost use Rattle.report.specs.declared.fault.ReportFault.TheVariants as variants;
 
 use map::refusal::Refusal;
+use thiserror::Error;
+use writing::fault::SaveFault;
 
-#[derive(Clone, Copy, PartialEq, Eq, Debug)]
+#[derive(Clone, Copy, PartialEq, Eq, Debug, Error)]
 pub enum ReportFault {
-    // the sheet has fewer words than the map has states
+    #[error("the sheet has fewer words than the map has states")]
     ShortSheet,
-    // the text is longer than the buffer
+    #[error("the text is longer than the buffer")]
     NoRoom,
+}
+
+impl From<SaveFault> for ReportFault {
+    ghost from_gives = { λ fault report. report ≡ variants.NoRoom };
+
+    fn from(fault: SaveFault) -> ReportFault {
+        match fault {
+            SaveFault::NoRoom => ReportFault::NoRoom,
+        }
+    }
 }
 
 impl Refusal for ReportFault {

@@ -8,22 +8,18 @@ ghost use Rattle.session.specs.Sessions.{state};
 use crate::collect::{NOTHING, collect};
 use crate::fault::ReportFault;
 use crate::found::Found;
-use crate::lines::put_report;
+use crate::lines::Report;
 use look::Look;
 use map::Map;
 use session::held::Session;
-use writing::pen::Pen;
+use writing::save::save;
 
-// Counts the text of the results, and writes it where there is room for the whole of it.
-fn save(finds: &[Found], out: &mut [u8]) -> Result<usize, ReportFault>
+// Saves the report of the results.
+fn save_report(finds: &[Found], out: &mut [u8]) -> Result<usize, ReportFault>
     requires { length finds.now ≤ 64 }
     ensures { Reported (report_text finds.now) out.old out.new result }
 {
-    let Some(length) = put_report(Pen::Counts, out, finds) else {
-        return Err(ReportFault::NoRoom);
-    };
-    let _ = put_report(Pen::Writes, out, finds);
-    Ok(length)
+    Ok(save(&Report { finds }, out)?)
 }
 
 // Writes a line for each marked row, with its verdict and its reach by the labels in the sheet now, and answers the length
@@ -43,5 +39,5 @@ pub fn report<M: Map>(
     let mut finds = [NOTHING; 64];
     collect(session, map, sheet, &mut finds);
     let n = session.marked() as usize;
-    save(&finds[..n], out)
+    save_report(&finds[..n], out)
 }

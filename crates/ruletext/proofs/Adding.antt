@@ -1,5 +1,5 @@
 -- A row that a session was asked to add. Assumes nothing.
-use Rattle.std.proofs.Common.{◌≡◌, ℕ, List, [], ◌∷◌, ◌++◌, length, Some, None, Ok, Err, Option, Result, sym, refl, ap, ◌∙◌, ap₂, arith}
+use Rattle.std.proofs.Common.{◌≡◌, ℕ, List, [], ◌∷◌, ◌++◌, length, Some, None, Ok, Err, Option, Result, refl, ap, ap₂, arith}
 use Rattle.calls.specs.Answers.{State, Lent, questions, Grants, Decided}
 use Rattle.calls.specs.Effects.{Tables, alone, Gives}
 use Rattle.calls.specs.declared.call.Answer.{Answer}
@@ -26,8 +26,8 @@ module _ (k : Structure) (V : ℕ → ℕ → Type 0) (st : State) (l : Lent) (r
 
   by_answer : (o : Option SessionFault) (r : Result ℕ SessionFault) (after : State) → Decided k V st l (call.Add row) (answered answer.Added r) after o → told r after ≡ row_added st row o
   by_answer None (Ok n) after d = ap (told (Ok n)) (granted_add d).1
-  by_answer None (Err f) after d = let e = (granted_add d).0 in let z : ◌≡◌ {A = ℕ} 0 1 = cc in absurd (omega arith)
-  by_answer (Some f) (Ok n) after d = let e = d.0 in let z : ◌≡◌ {A = ℕ} 0 1 = cc in absurd (omega arith)
+  by_answer None (Err f) after d = let e = (granted_add d).0 in grind arith
+  by_answer (Some f) (Ok n) after d = let e = d.0 in grind arith
   by_answer (Some f) (Err g) after d = let e = d.0 in let q : g ≡ f = cc in ap₂ (λ s h. told (Err h) s) d.1 q
 
 -- what the session answered is what the line does

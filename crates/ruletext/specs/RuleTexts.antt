@@ -1,16 +1,14 @@
 -- What a rule text means: which rows it adds to a session, and the fault that ends it. Assumes nothing.
-use Rattle.std.specs.Prelude.{ℕ, Bool, true, false, cond, List, [], ◌∷◌, ◌++◌, length, is_some, Some, None, Ok, Err, Option, Result, nat_le}
+use Rattle.std.specs.Prelude.{ℕ, cond, List, [], ◌∷◌, ◌++◌, is_some, Some, None, Ok, Err, Option, Result}
 use Rattle.calls.specs.Answers.{State, Lent, questions}
 use Rattle.calls.specs.Histories.{Kept}
 use Rattle.calls.specs.declared.call.Call.TheVariants as call
 use Rattle.calls.specs.declared.fault.SessionFault.{SessionFault}
-use Rattle.map.specs.Questions.{Question, ask, first_no}
+use Rattle.map.specs.Questions.{first_no}
 use Rattle.reader.specs.Places.{stands}
-use Rattle.reader.specs.Readings.{Outcome, Taken, takes, at_line}
-use Rattle.reader.specs.Texts.{text_lines}
+use Rattle.reader.specs.Readings.{Outcome, Taken, text_read}
 use Rattle.reader.specs.declared.fault.TextFault.{TextFault}
-use Rattle.reader.specs.declared.fault.Trouble.{Trouble}
-use Rattle.reader.specs.declared.fault.Trouble.TheVariants.{TooLong, OutOfPlace, Session}
+use Rattle.reader.specs.declared.fault.Trouble.TheVariants.{OutOfPlace, Session}
 use Rattle.reader.specs.declared.place.Place.TheVariants.{InRules}
 use Rattle.stl.specs.Structures.{Structure}
 use Rattle.stl.specs.declared.row.Row.{Row}
@@ -37,11 +35,6 @@ adds k words st (Target target) = record { left = st; trouble = None }
 abbrev pub rule_step : Structure → ℕ → State → Line → Taken State
 rule_step k words st line = cond (is_some (stands InRules line)) (adds k words st line) (record { left = st; trouble = Some OutOfPlace })
 
--- a line taken, by what its taker answers and what the session keeps after
-abbrev pub rule_taken : Result (Unit {0}) Trouble → State → Taken State
-rule_taken (Ok x) after = record { left = after; trouble = None }
-rule_taken (Err trouble) after = record { left = after; trouble = Some trouble }
-
 -- what reading answers: nothing more, or the fault
 abbrev pub rule_answer : Option TextFault → Result (Unit {0}) TextFault
 rule_answer None = Ok tt
@@ -49,9 +42,7 @@ rule_answer (Some fault) = Err fault
 
 -- what a rule text means to a session that keeps st: what the session keeps after it, and the first fault
 abbrev pub rule_read : Structure → ℕ → State → List ℕ → Outcome State
-rule_read k words st text = cond (nat_le (length text) 60000)
-    (takes (rule_step k words) 1 st (text_lines text))
-    (record { left = st; fault = Some (at_line 0 TooLong) })
+rule_read k words st text = text_read (rule_step k words) st text
 
 -- a session whose labels are the logic's before is such a session after
 abbrev pub Keeps : Structure → List ℕ → State → State → Type 0

@@ -1,36 +1,50 @@
 // Reading a rule text.
-ghost use Rattle.std.specs.Prelude.{◌≡◌, ◌≤◌, length};
+ghost use Rattle.std.specs.Prelude.{◌≡◌, length, ⊤};
+ghost use Rattle.calls.specs.Answers.{State};
 ghost use Rattle.map.specs.Meaning.{structure};
-ghost use Rattle.ruletext.specs.RuleTexts.{rule_step, rule_taken, rule_read, rule_answer, Keeps};
+ghost use Rattle.ruletext.specs.Readers.{Fixed};
+ghost use Rattle.ruletext.specs.RuleTexts.{rule_step, rule_read, rule_answer, Keeps};
 ghost use Rattle.session.specs.Sessions.{state};
+ghost use Rattle.calls.specs.Histories.{Kept};
 
 use look::Look;
 use map::Map;
 use reader::fault::{TextFault, Trouble};
-use reader::next::take_line;
 use reader::place::{Place, stand};
+use reader::reading::{Reader, read_text};
 use session::held::Session;
 use text::line::Line;
 
-// Takes one line: may it stand here, and does the session take its row?
-fn take_rule<M: Map>(
-    session: &mut Session,
-    map: &M,
-    sheet: &[u64],
-    line: Line,
-) -> Result<(), Trouble>
-    ensures taken { rule_taken result (state session.new) ≡ rule_step (structure M.L.Look.sign (M.meaning map.now)) (length sheet.now) (state session.old) line }
-    ensures keeps { Keeps (structure M.L.Look.sign (M.meaning map.now)) sheet.now (state session.old) (state session.new) }
-{
-    if stand(Place::InRules, line).is_none() {
-        return Err(Trouble::OutOfPlace);
-    }
-    match line {
-        Line::Rule(row) => match session.add(map, sheet, row) {
-            Ok(_) => Ok(()),
-            Err(fault) => Err(Trouble::Session(fault)),
-        },
-        Line::Map(_) | Line::State(_, _) | Line::Target(_) => Ok(()),
+// What reads a rule text: the session that takes its rows, on a map, lent a sheet.
+#[derive(Drop)]
+struct RuleReader<'a, M> {
+    session: &'a mut Session,
+    map: &'a M,
+    sheet: &'a [u64],
+}
+
+impl<'a, M: Map> Reader for RuleReader<'a, M> {
+    ghost Held = { State };
+
+    ghost held = { λ x. state x.session.now };
+
+    ghost Fixed = { Fixed };
+
+    ghost fixed = { λ x. record { on = structure M.L.Look.sign (M.meaning x.map.now); sheet = x.sheet.now; place = x.session.ghost_name } };
+
+    ghost step = { λ f. rule_step f.on (length f.sheet) };
+
+    ghost sound = { λ f st. Kept f.on st f.sheet };
+
+    ghost can_take = { λ st n. ⊤ };
+
+    // Takes one line: may it stand here, and does the session take its row?
+    fn take(&mut self, line: Line) -> Result<(), Trouble> {
+        stand(Place::InRules, line).ok_or(Trouble::OutOfPlace)?;
+        if let Line::Rule(row) = line {
+            self.session.add(self.map, self.sheet, row)?;
+        }
+        Ok(())
     }
 }
 
@@ -46,29 +60,11 @@ pub fn read_rules<M: Map>(
     ensures kept { state session.new ≡ (rule_read (structure M.L.Look.sign (M.meaning map.now)) (length sheet.now) (state session.old) text.now).left }
     ensures keeps { Keeps (structure M.L.Look.sign (M.meaning map.now)) sheet.now (state session.old) (state session.new) }
 {
-    if text.len() > 60_000 {
-        return Err(TextFault {
-            what: Trouble::TooLong,
-            line: 0,
-        });
-    }
-    let mut line = 1;
-    let mut rest = text;
-    while let Some((said, more)) = take_line(rest) {
-        match said {
-            Err(fault) => {
-                return Err(TextFault {
-                    what: Trouble::Line(fault),
-                    line,
-                });
-            }
-            Ok(said) => match take_rule(session, map, sheet, said) {
-                Err(what) => return Err(TextFault { what, line }),
-                Ok(()) => {}
-            },
-        }
-        line += 1;
-        rest = more;
-    }
+    let mut reader = RuleReader {
+        session,
+        map,
+        sheet,
+    };
+    read_text(text, &mut reader)?;
     Ok(())
 }

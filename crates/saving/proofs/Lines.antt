@@ -48,7 +48,7 @@ pub there : {X : Type 0} (xs : List X) (k : ℕ) (d x : X) (o : Option X) → k 
 there xs k d x o h e s = let n = slice_get-get_or xs k d h in cc
 
 pub not_missing : {X : Type 0} (xs : List X) (k : ℕ) (d : X) (o : Option X) → k < length xs → o ≡ slice_get xs k → o ≡ None → ⊥
-not_missing xs k d o h e s = let n = slice_get-get_or xs k d h in let z : ◌≡◌ {A = ℕ} 0 1 = cc in omega arith
+not_missing xs k d o h e s = let n = slice_get-get_or xs k d h in grind arith
 
 -- nothing is said of no answer
 pub none_answered : {X : Type 0} {o : Option X} (P : Type 0) → o ≡ None → IfSome o (λ _. P)

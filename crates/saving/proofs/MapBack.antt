@@ -14,6 +14,7 @@ use Rattle.maptext.proofs.Whole.{whole}
 use Rattle.maptext.specs.MapTexts.{MapRead, has_map, complete, closed, part, size_of, judged, made_of, all_taken, map_read}
 use Rattle.maptext.specs.Steps.{Reading, begun, does, line_questions, step}
 use Rattle.reader.proofs.Endings.{text_laws}
+use Rattle.reader.proofs.Takings.{by_lines}
 use Rattle.reader.specs.Readings.{takes}
 use Rattle.reader.specs.Texts.{text_lines, written_text, AllFit}
 use Rattle.text.specs.Written.{written_line}
@@ -92,11 +93,11 @@ map_reads_back m b t room looks short =
     let x = all_done (begun t) (map_lines m) in
     let w = states.2 in
     let lines = text_laws.reads_back (map_lines m) (fit_lines m b looks) in
-    let all : all_taken (map_text m) t ≡ record { left = x; fault = None } = ap (λ ls. takes step 1 (begun t) ls) lines ∙ takes_fine 1 (begun t) (map_lines m) (map_fine m t room, states.0) in
+    let all : all_taken (map_text m) t ≡ record { left = x; fault = None } = by_lines step (begun t) (map_text m) short ∙ ap (λ ls. takes step 1 (begun t) ls) lines ∙ takes_fine 1 (begun t) (map_lines m) (map_fine m t room, states.0) in
     let placed : has_map x.at.place ≡ true = ⊎_elim (λ e. ap has_map e) (λ e. ap has_map e) states.1 in
     let done : complete x.at ≡ true = and_from (has_map x.at.place) _ placed (eq-eqb x.at.states x.at.size (w.states ∙ sym w.size)) in
     let few : moves_below m m.size ≤ 32768 = omega (arith, text_long (map_lines m), how_many m m.size) in
     let part_held = part_is m x w in
     let fine = not_refused m b few in
     let made : made_of (text_lines (map_text m)) x ≡ record { answer = Ok (size_of x.at); held = closed x } = ap (λ (o : Option ListedFault). judged (text_lines (map_text m)) x o) (ap (λ (u : Tables SwitchLook). first_no (questions u)) part_held ∙ fine) in
-    judged_as m (map_read (map_text m) t) x (whole (map_text m) t short x all done ∙ made) (size_is m x w) part_held fine (same m b)
+    judged_as m (map_read (map_text m) t) x (whole (map_text m) t x all done ∙ made) (size_is m x w) part_held fine (same m b)

@@ -1,10 +1,10 @@
 -- A text put piece by piece. Assumes nothing.
-use Rattle.std.proofs.Common.{◌≡◌, ℕ, zero, suc, ◌+◌, ◌<◌, ◌≤◌, List, [], ◌++◌, Some, None, Option, sym, ap, ◌∙◌, ⊎_elim, add-one, arith}
+use Rattle.std.proofs.Common.{◌≡◌, ℕ, zero, suc, ◌+◌, ◌<◌, ◌≤◌, List, [], ◌++◌, IsErr, Ok, Err, Result, sym, ap, ◌∙◌, ⊎_elim, add-one, arith}
 use Rattle.std.proofs.lemmas.List.{append_assoc, append-nil}
 use Rattle.std.proofs.lemmas.Bool.{cases_eq}
-use Rattle.writing.specs.Places.{Put}
-use Rattle.writing.specs.declared.pen.Pen.{Pen}
-use Rattle.writing.proofs.Joins.{put_same, put_then, put_none}
+use Rattle.writing.specs.Sinks.{Put, SinkLaws}
+use Rattle.writing.specs.declared.fault.SaveFault.{SaveFault}
+use Rattle.writing.proofs.Joins.{put_same, put_then, put_stop}
 
 -- the pieces below n, one after the other
 abbrev pub pieces : (ℕ → List ℕ) → ℕ → List ℕ
@@ -22,13 +22,14 @@ front_of f k (suc n) h = ⊎_elim
     (λ ne. let w = front_of f k n (omega arith) in (w.0 ++ f n, ap (λ t. t ++ f n) w.1 ∙ append_assoc (pieces f k) w.0 (f n)))
     (cases_eq k (suc n))
 
--- one piece more
-pub put_more : {pen : Pen} {b m a : List ℕ} {at next : ℕ} {r : Option ℕ} (f : ℕ → List ℕ) (k : ℕ) → Put pen b at (pieces f k) m (Some next) → Put pen m next (f k) a r → Put pen b at (pieces f (k + 1)) a r
-put_more f k p q = put_same (sym (one_more f k)) (put_then p q)
+module _ {S : Type 0} {room : S → ℕ} {puts : S → List ℕ → S → Type 0} {keeps : S → S → Type 0} (l : SinkLaws room puts keeps) (f : ℕ → List ℕ) (k : ℕ) where
+  -- one piece more
+  pub put_more : {s t u : S} {r : Result (Unit {0}) SaveFault} → Put room puts keeps s (pieces f k) (Ok tt) t → Put room puts keeps t (f k) r u → Put room puts keeps s (pieces f (k + 1)) r u
+  put_more p q = put_same (sym (one_more f k)) (put_then l p q)
 
--- a piece without room, so all n have none
-pub put_stop : {pen : Pen} {b m a : List ℕ} {at next : ℕ} {r : Option ℕ} (f : ℕ → List ℕ) (k n : ℕ) → k < n → Put pen b at (pieces f k) m (Some next) → Put pen m next (f k) a None → r ≡ None → Put pen b at (pieces f n) a r
-put_stop f k n h p q e =
-    let w = front_of f (k + 1) n (omega arith) in
-    let whole : pieces f n ≡ (pieces f k ++ f k) ++ w.0 = w.1 ∙ ap (λ t. t ++ w.0) (one_more f k) in
-    put_same (sym whole) (put_none w.0 (put_then p q) e)
+  -- a piece without room, so all n have none
+  pub put_short : {s t u : S} {x : SaveFault} {r : Result (Unit {0}) SaveFault} (n : ℕ) → k < n → Put room puts keeps s (pieces f k) (Ok tt) t → Put room puts keeps t (f k) (Err x) u → IsErr r → Put room puts keeps s (pieces f n) r u
+  put_short n h p q e =
+      let w = front_of f (k + 1) n (omega arith) in
+      let whole : pieces f n ≡ (pieces f k ++ f k) ++ w.0 = w.1 ∙ ap (λ t. t ++ w.0) (one_more f k) in
+      put_same (sym whole) (put_stop l w.0 (put_then l p q) e)

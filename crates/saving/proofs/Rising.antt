@@ -6,9 +6,9 @@ use Rattle.listed.specs.Tables.{Tables}
 use Rattle.look.specs.declared.switch.SwitchLook.{SwitchLook}
 use Rattle.map.proofs.Asked.{answered}
 use Rattle.map.specs.Questions.{first_no}
-use Rattle.maptext.proofs.Taking.{stays_within, counted}
+use Rattle.maptext.proofs.Taking.{within_does, counts_one}
 use Rattle.maptext.specs.MapTexts.{Within}
-use Rattle.maptext.specs.Steps.{Reading, begun, does, space, line_questions, unless, step, taken}
+use Rattle.maptext.specs.Steps.{Reading, begun, does, space, line_questions, unless, step}
 use Rattle.reader.specs.Places.{stands}
 use Rattle.reader.specs.Readings.{goes_on, takes}
 use Rattle.reader.specs.declared.fault.Trouble.{Trouble}
@@ -55,13 +55,13 @@ pub record Half (x : Reading) : Type 0 where
   pub within : Within x
 
 target_inside : (p : Place) (t : ℕ) → is_some (stands p (Target t)) ≡ true → p ≡ InStates
-target_inside BeforeMap t e = let z : ◌≡◌ {A = ℕ} 0 1 = cc in absurd (omega arith)
-target_inside AfterMap t e = let z : ◌≡◌ {A = ℕ} 0 1 = cc in absurd (omega arith)
+target_inside BeforeMap t e = grind arith
+target_inside AfterMap t e = grind arith
 target_inside InStates t e = refl
-target_inside InRules t e = let z : ◌≡◌ {A = ℕ} 0 1 = cc in absurd (omega arith)
+target_inside InRules t e = grind arith
 
 half_does : (x : Reading) (line : Line) → is_some (stands x.at.place line) ≡ true → space x line ≡ true → Within (does x line) → Half x → Half (does x line)
-half_does x (Map n) p s w h = record { inside = λ e. let z : ◌≡◌ {A = ℕ} 0 1 = cc in absurd (omega arith); early = h.early; rises = h.rises; within = w }
+half_does x (Map n) p s w h = record { inside = λ e. grind arith; early = h.early; rises = h.rises; within = w }
 half_does x (State look start) p s w h =
     let a = and_parts (ltb x.at.states (length x.held.looks)) _ s in
     let b = and_parts (ltb x.at.states (length x.held.starts)) _ a.1 in
@@ -77,16 +77,13 @@ half_does x (Target t) p s w h =
 half_does x (Rule row) p s w h = h
 
 module _ (x : Reading) (line : Line) (fine : first_no (line_questions x line) ≡ None) where
-  stepped : taken x.at (Ok (does x line).at) (does x line).held ≡ step x line
-  stepped = ap (λ (o : Option Trouble). record { left = unless o (does x line) x; trouble = o }) (sym fine)
-
   half_line : Half x → Half (does x line)
   half_line h =
       let all = answered (line_questions x line) fine in
-      half_does x line all.0 all.1.0 (stays_within x line x.at (does x line).at (does x line).held stepped h.within) h
+      half_does x line all.0 all.1.0 (within_does x line all.0 all.1.0 h.within) h
 
   one_line : (does x line).at.states + (does x line).at.moves ≤ x.at.states + x.at.moves + 1
-  one_line = counted x line x.at (does x line).at (does x line).held stepped
+  one_line = counts_one x line
 
 pub half_lines : (x : Reading) (lines : List Line) → Fine x lines → Half x → Half (all_done x lines) × ((all_done x lines).at.states + (all_done x lines).at.moves ≤ x.at.states + x.at.moves + length lines)
 half_lines x [] f h = (h, omega arith)
@@ -97,23 +94,23 @@ half_lines x (line ∷ lines) f h =
 -- lines of which none was at fault
 pub fine_lines : (n : ℕ) (x : Reading) (ls : List (Result Line LineFault)) → (takes step n x ls).fault ≡ None → (lines : List Line) × (ls ≡ map Ok lines) × Fine x lines
 fine_lines n x [] e = ([], refl, tt)
-fine_lines n x (Err fault ∷ ls) e = let z : ◌≡◌ {A = ℕ} 0 1 = cc in absurd (omega arith)
+fine_lines n x (Err fault ∷ ls) e = grind arith
 fine_lines n x (Ok line ∷ ls) e = by (fine_lines (n + 1) (does x line) ls) (first_no (line_questions x line)) refl e
   where
     by : ((takes step (n + 1) (does x line) ls).fault ≡ None → (lines : List Line) × (ls ≡ map Ok lines) × Fine (does x line) lines) → (o : Option Trouble) → first_no (line_questions x line) ≡ o → (goes_on n (unless o (does x line) x) o (λ y. takes step (n + 1) y ls)).fault ≡ None → (lines : List Line) × (Ok line ∷ ls ≡ map Ok lines) × Fine x lines
     by more None q f = let w = more f in (line ∷ w.0, ap (λ rs. Ok line ∷ rs) w.1, (q, w.2))
-    by more (Some trouble) q f = let z : ◌≡◌ {A = ℕ} 0 1 = cc in absurd (omega arith)
+    by more (Some trouble) q f = grind arith
 
 -- before any line
 pub half_begun : (t : Tables SwitchLook) → Half (begun t)
 half_begun t = record {
-  inside = λ e. let z : ◌≡◌ {A = ℕ} 0 1 = cc in absurd (omega arith);
+  inside = λ e. grind arith;
   early = λ e. refl;
   rises = record { begins = λ l. absurd (omega arith); climbs = λ i l. absurd (omega arith); below = λ i l. absurd (omega arith) };
   within = record {
-    looks = λ e. let z : ◌≡◌ {A = ℕ} 0 1 = cc in absurd (omega arith);
-    starts = λ e. let z : ◌≡◌ {A = ℕ} 0 1 = cc in absurd (omega arith);
-    firsts = λ e. let z : ◌≡◌ {A = ℕ} 0 1 = cc in absurd (omega arith);
+    looks = λ e. grind arith;
+    starts = λ e. grind arith;
+    firsts = λ e. grind arith;
     targets = omega arith;
   };
 }

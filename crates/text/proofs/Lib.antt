@@ -1,4 +1,3 @@
 pub mod Numerals
 pub mod Parting
-pub mod Forms
 pub mod Writing

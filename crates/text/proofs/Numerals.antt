@@ -1,8 +1,9 @@
 -- Numbers and their numerals. Assumes nothing.
-use Rattle.std.proofs.Common.{◌≡◌, ℕ, ◌+◌, ◌-◌, ◌*◌, ◌/◌, ◌%◌, ◌^◌, ◌<◌, ◌≤◌, true, false, cond, not, ◌&&◌, eqb, ltb, leb, List, [], ◌∷◌, ◌++◌, map, length, get_or, drop, Some, None, Option, sym, refl, ap, ◌∙◌, subst, ⊎_elim, arith}
+use Rattle.std.proofs.Common.{◌≡◌, ℕ, ◌+◌, ◌-◌, ◌*◌, ◌/◌, ◌%◌, ◌^◌, ◌<◌, ◌≤◌, true, cond, not, ◌&&◌, eqb, ltb, leb, List, [], ◌∷◌, ◌++◌, map, length, get_or, drop, Some, None, Option, sym, refl, ap, ◌∙◌, subst, ⊎_elim, arith}
 use Rattle.std.proofs.lemmas.Int.Digits.{digits_of_step, all_below_base_digits_of, first_digits_of, number_digits_of}
 use Rattle.std.proofs.lemmas.List.{append-nil, append_assoc, map-append, at_drop_more, at_drop_all}
-use Rattle.std.proofs.lemmas.Bool.{cond-true, cond-false, ne_eqb, eqb-false, ltb-true, lt-ltb, le-ltb, le-leb, leb-true, and_parts, and_from, and_right, cases_Bool, cases_eq, not-true, not_from_false}
+use Rattle.std.proofs.lemmas.Grind.{common_steps}
+use Rattle.std.proofs.lemmas.Bool.{cond-true, cond-false, ne_eqb, eqb-false, ltb-true, lt-ltb, le-leb, leb-true, and_parts, and_from, cases_Bool, cases_eq, not-true, not_from_false}
 use Rattle.std.specs.Int.Digits.{digits_of, number_from_digits_after, AllBelowBase}
 use Rattle.text.specs.Numbers.{digit, all_digits, value_after, digits_value, well_formed, number_below, digit_bytes, written, NumberLaws}
 
@@ -27,21 +28,16 @@ digit_high b h = leb-true b 57 (and_parts (leb 48 b) _ h).1
 
 -- reading from the left
 
-too_large : (n : ℕ) (bs : List ℕ) → 2 ^ 32 ≤ n → read_on n bs ≡ None
-too_large n bs h = cond-false _ _ _ (and_right (all_digits bs) _ (le-ltb _ _ (omega (arith, value_after_ge n bs))))
-
 pub read_all : (n : ℕ) (xs : List ℕ) (i : ℕ) → length xs ≤ i → n < 2 ^ 32 → read_on n (drop i xs) ≡ Some n
 read_all n xs i h small = at_drop_all (read_on n) xs i h ∙ cond-true _ _ _ (lt-ltb _ _ small)
 
+-- one digit more, where that is a number
+abbrev pub one_more : ℕ → ℕ → Option ℕ
+one_more n b = cond (digit b && ltb (n * 10 + (b - 48)) (2 ^ 32)) (Some (n * 10 + (b - 48))) None
+
 module _ (n : ℕ) (xs : List ℕ) (i : ℕ) (h : i < length xs) where
-  pub read_digit : digit (get_or xs i 0) ≡ true → read_on n (drop i xs) ≡ read_on (n * 10 + (get_or xs i 0 - 48)) (drop (i + 1) xs)
-  read_digit e = at_drop_more (read_on n) xs i 0 h ∙ rw e
-
-  pub read_past : digit (get_or xs i 0) ≡ true → 2 ^ 32 ≤ n * 10 + (get_or xs i 0 - 48) → read_on n (drop i xs) ≡ None
-  read_past e large = read_digit e ∙ too_large (n * 10 + (get_or xs i 0 - 48)) (drop (i + 1) xs) large
-
-  pub read_other : digit (get_or xs i 0) ≡ false → read_on n (drop i xs) ≡ None
-  read_other e = at_drop_more (read_on n) xs i 0 h ∙ rw e
+  pub read_stops : one_more n (get_or xs i 0) ≡ None → read_on n (drop i xs) ≡ None
+  read_stops e = at_drop_more (read_on n) xs i 0 h ∙ grind (arith, common_steps, e, value_after_ge (n * 10 + (get_or xs i 0 - 48)) (drop (i + 1) xs))
 
 -- digits as bytes
 
@@ -114,7 +110,7 @@ front_written b bs low a =
     ∙ ap (λ t. t ++ bs) (one_digit b low high))
 
 formed_written : (field : List ℕ) → well_formed field ≡ true → field ≡ written (digits_value field)
-formed_written [] f = let z : ◌≡◌ {A = ℕ} 0 1 = cc in absurd (omega arith)
+formed_written [] f = grind arith
 formed_written (b ∷ []) f =
     let low = digit_low b f in
     ⊎_elim (λ e. subst (λ k. k ∷ [] ≡ written (digits_value (k ∷ []))) (sym e) refl) (λ ne. front_written b [] (omega arith) (and_from _ true f refl)) (cases_eq b 48)
@@ -136,7 +132,7 @@ number_at bound field n e = ⊎_elim
     let p = and_parts (well_formed field) (ltb (digits_value field) bound) t in
     let v : digits_value field ≡ n = cc (cond-true (well_formed field && ltb (digits_value field) bound) (Some (digits_value field)) None t) in
     (p.0, omega (arith, ltb-true _ _ p.1), v))
-    (λ f. let g = cond-false (well_formed field && ltb (digits_value field) bound) (Some (digits_value field)) None f in let z : ◌≡◌ {A = ℕ} 0 1 = cc in absurd (omega arith))
+    (λ f. let g = cond-false (well_formed field && ltb (digits_value field) bound) (Some (digits_value field)) None f in grind arith)
     (cases_Bool (well_formed field && ltb (digits_value field) bound))
 
 pub number_laws : NumberLaws

@@ -1,30 +1,19 @@
 -- Bytes parted by a byte, one step at a time. Assumes nothing.
-use Rattle.std.proofs.Common.{◌≡◌, ℕ, ◌+◌, ◌-◌, ◌<◌, ◌≤◌, true, false, cond, not, eqb, List, [], ◌∷◌, ◌++◌, length, get_or, take, drop, Some, None, Option, sym, refl, ap, ◌∙◌, ⊎_elim, arith}
-use Rattle.std.proofs.lemmas.List.{take_rest, take_all, take_more, append_assoc, append-nil, at_drop_more, at_drop_all}
-use Rattle.std.proofs.lemmas.Bool.{cond-true, cond-false, eq-eqb, ne_eqb, eqb-true, and_parts, and_from, not-true, not_from_false, cases_Bool}
+use Rattle.std.proofs.Common.{◌≡◌, ℕ, suc, ◌+◌, true, false, cond, not, eqb, ltb, List, [], ◌∷◌, ◌++◌, length, take, drop, Some, None, Option, sym, refl, ap, ◌∙◌, ⊎_elim, arith}
+use Rattle.std.proofs.lemmas.Grind.{common_steps}
+use Rattle.std.proofs.lemmas.Bool.{cond-true, cond-false, eq-eqb, eqb-true, and_parts, and_from, not-true, not_from_false, cases_Bool}
+use Rattle.std.specs.List.{position_or_len}
 use Rattle.text.specs.Split.{before, after, onto_first, parts, lacks, SplitLaws}
 
--- what is known once i bytes are past
-abbrev pub Past : ℕ → List ℕ → ℕ → Type 0
-Past at xs i = (take i xs ++ before at (drop i xs) ≡ before at xs) × (after at (drop i xs) ≡ after at xs)
+-- what lies before and after the first place of a byte
+pub before_place : (at : ℕ) (xs : List ℕ) → before at xs ≡ take (position_or_len (λ b. eqb b at) xs) xs
+before_place at [] = refl
+before_place at (b ∷ bs) = elim (eqb b at) as (λ t. cond t [] (b ∷ before at bs) ≡ take (cond (not t) (1 + position_or_len (λ x. eqb x at) bs) 0) (b ∷ bs))
+    [ true ↦ refl | false ↦ let p = position_or_len (λ x. eqb x at) bs in let one : suc p ≡ 1 + p = omega arith in ap (λ xs. b ∷ xs) (before_place at bs) ∙ ap (λ n. take n (b ∷ bs)) one ]
 
-pub past_end : (at : ℕ) (xs : List ℕ) (i : ℕ) → length xs ≤ i → Past at xs i → (xs ≡ before at xs) × (None ≡ after at xs)
-past_end at xs i h p =
-    (sym (append-nil xs) ∙ ap (λ t. t ++ []) (sym (take_all i xs h)) ∙ ap (λ t. take i xs ++ t) (sym (at_drop_all (before at) xs i h)) ∙ p.0, sym (at_drop_all (after at) xs i h) ∙ p.1)
-
-module _ (at : ℕ) (xs : List ℕ) (i : ℕ) (h : i < length xs) where
-  pub past_more : (get_or xs i 0 ≡ at → ⊥) → Past at xs i → Past at xs (i + 1)
-  past_more ne p =
-      let f = at_drop_more (before at) xs i 0 h ∙ cond-false _ _ _ (ne_eqb _ _ ne) in
-      let a = at_drop_more (after at) xs i 0 h ∙ cond-false _ _ _ (ne_eqb _ _ ne) in
-      (ap (λ t. t ++ before at (drop (i + 1) xs)) (take_more xs i 0 h) ∙ append_assoc (take i xs) (get_or xs i 0 ∷ []) (before at (drop (i + 1) xs)) ∙ ap (λ t. take i xs ++ t) (sym f) ∙ p.0, sym a ∙ p.1)
-
-  pub past_here : get_or xs i 0 ≡ at → Past at xs i → (take (i - 0) xs ≡ before at xs) × (Some (take (length xs - (i + 1)) (drop (i + 1) xs)) ≡ after at xs)
-  past_here e p =
-      let f = at_drop_more (before at) xs i 0 h ∙ cond-true _ _ _ (eq-eqb _ _ e) in
-      let a = at_drop_more (after at) xs i 0 h ∙ cond-true _ _ _ (eq-eqb _ _ e) in
-      let z : i - 0 ≡ i = omega arith in
-      (ap (λ n. take n xs) z ∙ sym (append-nil (take i xs)) ∙ ap (λ t. take i xs ++ t) (sym f) ∙ p.0, ap Some (take_rest xs (i + 1)) ∙ sym a ∙ p.1)
+pub after_place : (at : ℕ) (xs : List ℕ) → after at xs ≡ cond (ltb (position_or_len (λ b. eqb b at) xs) (length xs)) (Some (drop (position_or_len (λ b. eqb b at) xs + 1) xs)) None
+after_place at [] = refl
+after_place at (b ∷ bs) = grind (arith, common_steps, after_place at bs)
 
 -- the parts of what comes after a first part
 abbrev pub parts_after : ℕ → Option (List ℕ) → List (List ℕ)
@@ -48,12 +37,12 @@ none_before at (b ∷ bs) = ⊎_elim
 whole : (at : ℕ) (bs : List ℕ) → after at bs ≡ None → before at bs ≡ bs
 whole at [] e = refl
 whole at (b ∷ bs) e = ⊎_elim
-    (λ t. let f = cond-true (eqb b at) (Some bs) (after at bs) t in let z : ◌≡◌ {A = ℕ} 0 1 = cc in absurd (omega arith))
+    (λ t. let f = cond-true (eqb b at) (Some bs) (after at bs) t in grind arith)
     (λ f. cond-false (eqb b at) [] (b ∷ before at bs) f ∙ ap (λ xs. b ∷ xs) (whole at bs (sym (cond-false (eqb b at) (Some bs) (after at bs) f) ∙ e)))
     (cases_Bool (eqb b at))
 
 joins : (at : ℕ) (bs rest : List ℕ) → after at bs ≡ Some rest → before at bs ++ (at ∷ rest) ≡ bs
-joins at [] rest e = let z : ◌≡◌ {A = ℕ} 0 1 = cc in absurd (omega arith)
+joins at [] rest e = grind arith
 joins at (b ∷ bs) rest e = ⊎_elim
     (λ t.
     let r : bs ≡ rest = cc (cond-true (eqb b at) (Some bs) (after at bs) t) in

@@ -119,7 +119,7 @@ reads_back (Rule row) h = sym (fields_row row) ∙ ap (then_make Rule) (row_writ
 -- what reads as a line is that line as it is written
 
 some_back : (o : Option ℕ) (fault : LineFault) (n : ℕ) → ok_or o fault ≡ Ok n → o ≡ Some n
-some_back None fault n e = let z : ◌≡◌ {A = ℕ} 0 1 = cc in absurd (omega arith)
+some_back None fault n e = grind arith
 some_back (Some m) fault n e = let q : m ≡ n = cc in ap Some q
 
 number_back : (place bound : ℕ) (field : List ℕ) (n : ℕ) → number_in place bound field ≡ Ok n → (field ≡ written n) × (n < bound)
@@ -128,28 +128,28 @@ number_back place bound field n e =
     (number_laws.one_numeral bound field n s, number_laws.in_bound bound field n s)
 
 one_back : (place bound : ℕ) (fs : List (List ℕ)) (n : ℕ) → one_number place bound fs ≡ Ok n → (fs ≡ written n ∷ []) × (n < bound)
-one_back place bound [] n e = let z : ◌≡◌ {A = ℕ} 0 1 = cc in absurd (omega arith)
+one_back place bound [] n e = grind arith
 one_back place bound (a ∷ []) n e = let p = number_back place bound a n e in (ap (λ f. f ∷ []) p.0, p.1)
-one_back place bound (a ∷ (b ∷ more)) n e = let z : ◌≡◌ {A = ℕ} 0 1 = cc in absurd (omega arith)
+one_back place bound (a ∷ (b ∷ more)) n e = grind arith
 
 both_back : {X Y : Type 0} (r : Result X LineFault) (s : Result Y LineFault) (p : X × Y) → both r s ≡ Ok p → (r ≡ Ok p.0) × (s ≡ Ok p.1)
-both_back (Err f) s p e = let z : ◌≡◌ {A = ℕ} 0 1 = cc in absurd (omega arith)
-both_back (Ok x) (Err f) p e = let z : ◌≡◌ {A = ℕ} 0 1 = cc in absurd (omega arith)
+both_back (Err f) s p e = grind arith
+both_back (Ok x) (Err f) p e = grind arith
 both_back (Ok x) (Ok y) p e = let q : (x, y) ≡ p = cc in (ap (λ t. Ok t.0) q, ap (λ t. Ok t.1) q)
 
 two_back : (place bound next : ℕ) (fs : List (List ℕ)) (p : ℕ × ℕ) → two_numbers place bound next fs ≡ Ok p → (fs ≡ written p.0 ∷ (written p.1 ∷ [])) × ((p.0 < bound) × (p.1 < next))
-two_back place bound next [] p e = let z : ◌≡◌ {A = ℕ} 0 1 = cc in absurd (omega arith)
-two_back place bound next (a ∷ []) p e = let z : ◌≡◌ {A = ℕ} 0 1 = cc in absurd (omega arith)
+two_back place bound next [] p e = grind arith
+two_back place bound next (a ∷ []) p e = grind arith
 two_back place bound next (a ∷ (b ∷ [])) p e =
     let q = both_back (number_in place bound a) (number_in (place + 1) next b) p e in
     let x = number_back place bound a p.0 q.0 in
     let y = number_back (place + 1) next b p.1 q.1 in
     (ap (λ f. f ∷ (b ∷ [])) x.0 ∙ ap (λ f. written p.0 ∷ (f ∷ [])) y.0, (x.1, y.1))
-two_back place bound next (a ∷ (b ∷ (c ∷ more))) p e = let z : ◌≡◌ {A = ℕ} 0 1 = cc in absurd (omega arith)
+two_back place bound next (a ∷ (b ∷ (c ∷ more))) p e = grind arith
 
 make_back : {X Y : Type 0} (make : X → Y) (r : Result X LineFault) (y : Y) → then_make make r ≡ Ok y → (x : X) × (r ≡ Ok x) × (make x ≡ y)
 make_back make (Ok x) y e = let q : make x ≡ y = cc in (x, refl, q)
-make_back make (Err f) y e = let z : ◌≡◌ {A = ℕ} 0 1 = cc in absurd (omega arith)
+make_back make (Err f) y e = grind arith
 
 -- the word of a kind
 abbrev kind_word : Kind → List ℕ
@@ -167,7 +167,7 @@ word_step word x rest more k e = ⊎_elim
     (cases_Bool (bytes_eq word (kind_word x)))
 
 kind_back : (word : List ℕ) (k : Kind) → kind_of word ≡ Some k → word ≡ kind_word k
-kind_back word = word_step word kind.True _ (word_step word kind.Sign _ (word_step word kind.Not _ (word_step word kind.Or _ (word_step word kind.Next _ (word_step word kind.Until None (λ k e. let z : ◌≡◌ {A = ℕ} 0 1 = cc in absurd (omega arith)))))))
+kind_back word = word_step word kind.True _ (word_step word kind.Sign _ (word_step word kind.Not _ (word_step word kind.Or _ (word_step word kind.Next _ (word_step word kind.Until None (λ k e. grind arith))))))
 
 -- a row that was read from the operands of a kind
 abbrev Read : Kind → List (List ℕ) → Row → Type 0
@@ -175,7 +175,7 @@ Read k operands row = (kind_word k ∷ operands ≡ row_fields row) × RowFits r
 
 bare_back : (operands : List (List ℕ)) (row : Row) → no_number operands ≡ Ok row → Read kind.True operands row
 bare_back [] row e = let q : True ≡ row = cc in subst (λ r. Read kind.True [] r) q (refl, tt)
-bare_back (a ∷ more) row e = let z : ◌≡◌ {A = ℕ} 0 1 = cc in absurd (omega arith)
+bare_back (a ∷ more) row e = grind arith
 
 operands_back : (k : Kind) (operands : List (List ℕ)) (row : Row) → row_of (Some k) operands ≡ Ok row → Read k operands row
 operands_back kind.True operands row e = bare_back operands row e
@@ -201,11 +201,11 @@ operands_back kind.Until operands row e =
     subst (λ r. Read kind.Until operands r) m.2 (ap (λ fs. codes "until" ∷ fs) p.0, p.1)
 
 by_kind_back : (o : Option Kind) (word : List ℕ) (operands : List (List ℕ)) (row : Row) → kind_of word ≡ o → row_of o operands ≡ Ok row → (word ∷ operands ≡ row_fields row) × RowFits row
-by_kind_back None word operands row w e = let z : ◌≡◌ {A = ℕ} 0 1 = cc in absurd (omega arith)
+by_kind_back None word operands row w e = grind arith
 by_kind_back (Some k) word operands row w e = let p = operands_back k operands row e in (ap (λ f. f ∷ operands) (kind_back word k w) ∙ p.0, p.1)
 
 row_back : (fs : List (List ℕ)) (row : Row) → row_in fs ≡ Ok row → (fs ≡ row_fields row) × RowFits row
-row_back [] row e = let z : ◌≡◌ {A = ℕ} 0 1 = cc in absurd (omega arith)
+row_back [] row e = grind arith
 row_back (word ∷ operands) row e = by_kind_back (kind_of word) word operands row refl e
 
 -- a line that was read from its letter and the fields after it
@@ -247,16 +247,16 @@ letter_back a fs line =
     letter_step a 77 fs line (map_line fs) _ (map_back fs line)
     (letter_step a 83 fs line (state_line fs) _ (state_back fs line)
     (letter_step a 84 fs line (target_line fs) _ (target_back fs line)
-    (letter_step a 82 fs line (rule_line fs) (Err NotOfAForm) (rule_back fs line) (λ e. let z : ◌≡◌ {A = ℕ} 0 1 = cc in absurd (omega arith)))))
+    (letter_step a 82 fs line (rule_line fs) (Err NotOfAForm) (rule_back fs line) (λ e. grind arith))))
 
 line_back : (bytes : List ℕ) (line : Line) → line_of bytes ≡ Ok line → (bytes ≡ written_line line) × LineFits line
-line_back [] line e = let z : ◌≡◌ {A = ℕ} 0 1 = cc in absurd (omega arith)
-line_back (a ∷ []) line e = let z : ◌≡◌ {A = ℕ} 0 1 = cc in absurd (omega arith)
+line_back [] line e = grind arith
+line_back (a ∷ []) line e = grind arith
 line_back (a ∷ (b ∷ rest)) line e = ⊎_elim
     (λ t.
     let p = letter_back a (fields rest) line (sym (cond-true (eqb b 9) (by_letter a (fields rest)) (Err NotOfAForm) t) ∙ e) in
     (ap (λ x. a ∷ (x ∷ rest)) (eqb-true b 9 t) ∙ ap (λ xs. a ∷ xs) (sym (tabbed_fields rest)) ∙ p.0, p.1))
-    (λ f. let g = cond-false (eqb b 9) (by_letter a (fields rest)) (Err NotOfAForm) f in let z : ◌≡◌ {A = ℕ} 0 1 = cc in absurd (omega arith))
+    (λ f. let g = cond-false (eqb b 9) (by_letter a (fields rest)) (Err NotOfAForm) f in grind arith)
     (cases_Bool (eqb b 9))
 
 pub line_laws : LineLaws

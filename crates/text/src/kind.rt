@@ -1,11 +1,10 @@
 // The kinds of rows, and the row that follows a kind's word.
-ghost use Rattle.std.specs.Prelude.{◌≡◌, []};
-ghost use Rattle.std.specs.Str.{bytes_eq};
-ghost use Rattle.text.specs.Lines.{fields, kind_of, row_of, row_in};
+ghost use Rattle.std.specs.Prelude.{◌≡◌};
+ghost use Rattle.text.specs.Lines.{fields, kind_of, row_in};
 
 use crate::field::{read_one, read_two};
 use crate::line::LineFault;
-use crate::number::{NUMBERS, SIGNS};
+use crate::number::MAX_SIGN;
 use crate::split::split_first;
 use stl::row::Row;
 
@@ -20,70 +19,39 @@ pub enum Kind {
     Until,
 }
 
-// Whether two words are the same.
-fn is_word(word: &[u8], other: &[u8]) -> bool
-    ensures { result ≡ bytes_eq word.now other.now }
-{
-    word == other
-}
-
 // The kind that a word names.
-pub(crate) fn read_kind(word: &[u8]) -> Option<Kind>
+fn read_kind(word: &[u8]) -> Option<Kind>
     ensures { result ≡ kind_of word.now }
 {
-    if is_word(word, b"true") {
-        Some(Kind::True)
-    } else if is_word(word, b"sign") {
-        Some(Kind::Sign)
-    } else if is_word(word, b"not") {
-        Some(Kind::Not)
-    } else if is_word(word, b"or") {
-        Some(Kind::Or)
-    } else if is_word(word, b"next") {
-        Some(Kind::Next)
-    } else if is_word(word, b"until") {
-        Some(Kind::Until)
-    } else {
-        None
-    }
-}
-
-// The row of a kind that has no operands.
-fn read_bare(kind: Option<Kind>) -> Result<Row, LineFault>
-    ensures { result ≡ row_of kind [] }
-{
-    match kind {
-        Some(Kind::True) => Ok(Row::True),
-        _ => Err(LineFault::NotOfAForm),
-    }
-}
-
-// The row of a kind that has operands.
-fn read_operands(kind: Option<Kind>, operands: &[u8]) -> Result<Row, LineFault>
-    ensures { result ≡ row_of kind (fields operands.now) }
-{
-    match kind {
-        Some(Kind::Sign) => Ok(Row::Sign(read_one(operands, 3, SIGNS)? as u16)),
-        Some(Kind::Not) => Ok(Row::Not(read_one(operands, 3, NUMBERS)?)),
-        Some(Kind::Next) => Ok(Row::Next(read_one(operands, 3, NUMBERS)?)),
-        Some(Kind::Or) => {
-            let (a, b) = read_two(operands, 3, NUMBERS, NUMBERS)?;
-            Ok(Row::Or(a, b))
-        }
-        Some(Kind::Until) => {
-            let (a, b) = read_two(operands, 3, NUMBERS, NUMBERS)?;
-            Ok(Row::Until(a, b))
-        }
-        Some(Kind::True) | None => Err(LineFault::NotOfAForm),
+    match word {
+        b"true" => Some(Kind::True),
+        b"sign" => Some(Kind::Sign),
+        b"not" => Some(Kind::Not),
+        b"or" => Some(Kind::Or),
+        b"next" => Some(Kind::Next),
+        b"until" => Some(Kind::Until),
+        _ => None,
     }
 }
 
 // The row that the fields after the letter are.
+#[tactic(auto, using(crate::proofs::Parting::parts_first))]
 pub(crate) fn read_row(rest: &[u8]) -> Result<Row, LineFault>
     ensures { result ≡ row_in (fields rest.now) }
 {
-    match split_first(rest, 9) {
-        (word, None) => read_bare(read_kind(word)),
-        (word, Some(operands)) => read_operands(read_kind(word), operands),
+    let (word, operands) = split_first(rest, 9);
+    let kind = read_kind(word).ok_or(LineFault::NotOfAForm)?;
+    match (kind, operands) {
+        (Kind::True, None) => Ok(Row::True),
+        (Kind::Sign, Some(rest)) => read_one(rest, 3, MAX_SIGN).map(|k| Row::Sign(k as u16)),
+        (Kind::Not, Some(rest)) => read_one(rest, 3, u32::MAX).map(Row::Not),
+        (Kind::Next, Some(rest)) => read_one(rest, 3, u32::MAX).map(Row::Next),
+        (Kind::Or, Some(rest)) => {
+            read_two(rest, 3, u32::MAX, u32::MAX).map(|(a, b)| Row::Or(a, b))
+        }
+        (Kind::Until, Some(rest)) => {
+            read_two(rest, 3, u32::MAX, u32::MAX).map(|(a, b)| Row::Until(a, b))
+        }
+        (Kind::True, Some(_)) | (_, None) => Err(LineFault::NotOfAForm),
     }
 }

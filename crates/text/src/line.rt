@@ -4,11 +4,12 @@ ghost use Rattle.text.specs.Faults.{refusal};
 ghost use Rattle.text.specs.Lines.{fields, line_of, map_line, state_line, target_line, rule_line};
 ghost use Rattle.text.specs.Written.{LineLaws};
 
-use map::refusal::Refusal;
 use crate::field::{read_one, read_two};
 use crate::kind::read_row;
-use crate::number::{NUMBERS, STARTS};
+use crate::number::MAX_START;
+use map::refusal::Refusal;
 use stl::row::Row;
+use thiserror::Error;
 
 // What a line says.
 #[derive(Clone, Copy)]
@@ -24,11 +25,12 @@ pub enum Line {
 }
 
 // What is wrong with a line that says nothing.
-#[derive(Clone, Copy, PartialEq, Eq, Debug)]
+#[derive(Clone, Copy, PartialEq, Eq, Debug, Error)]
 pub enum LineFault {
-    // the letter, the number of fields or the kind word is wrong
+    #[error("the letter, the number of fields or the kind word is wrong")]
     NotOfAForm,
-    // this field is no number, or past its bound; the letter is field 1
+    // this field; the letter is field 1
+    #[error("a field is no number, or past its bound")]
     BadNumber(u32),
 }
 
@@ -54,29 +56,28 @@ impl Refusal for LineFault {
 fn read_map(rest: &[u8]) -> Result<Line, LineFault>
     ensures { result ≡ map_line (fields rest.now) }
 {
-    Ok(Line::Map(read_one(rest, 2, NUMBERS)?))
+    read_one(rest, 2, u32::MAX).map(Line::Map)
 }
 
 // The look and the start of a state.
 fn read_state(rest: &[u8]) -> Result<Line, LineFault>
     ensures { result ≡ state_line (fields rest.now) }
 {
-    let (look, start) = read_two(rest, 2, NUMBERS, STARTS)?;
-    Ok(Line::State(look, start as u8))
+    read_two(rest, 2, u32::MAX, MAX_START).map(|(look, start)| Line::State(look, start as u8))
 }
 
 // A target.
 fn read_target(rest: &[u8]) -> Result<Line, LineFault>
     ensures { result ≡ target_line (fields rest.now) }
 {
-    Ok(Line::Target(read_one(rest, 2, NUMBERS)?))
+    read_one(rest, 2, u32::MAX).map(Line::Target)
 }
 
 // A row.
 fn read_rule(rest: &[u8]) -> Result<Line, LineFault>
     ensures { result ≡ rule_line (fields rest.now) }
 {
-    Ok(Line::Rule(read_row(rest)?))
+    read_row(rest).map(Line::Rule)
 }
 
 // What a line says, or what is wrong with it; its byte 10 is left out.

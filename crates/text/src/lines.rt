@@ -9,8 +9,6 @@ use crate::split::split_first;
 pub fn next_line(text: &[u8]) -> Option<(&[u8], &[u8])>
     ensures { option_map (λ x. (x.0.now, x.1.now)) result ≡ first_line text.now }
 {
-    match split_first(text, 10) {
-        (line, Some(rest)) => Some((line, rest)),
-        (_, None) => None,
-    }
+    let (line, rest) = split_first(text, 10);
+    Some((line, rest?))
 }

@@ -1,53 +1,43 @@
 // Numbers: plain base ten, without leading zeros.
-ghost use Rattle.std.specs.Prelude.{◌≡◌, ◌^◌, ◌<◌, ◌≤◌, IfSome};
+ghost use Rattle.std.specs.Prelude.{◌≡◌, ◌+◌, ◌-◌, ◌*◌, ◌^◌, ◌<◌, ◌≤◌, cond, ◌&&◌, Some, None, nat_lt, IfSome};
 ghost use Rattle.text.specs.Numbers.{digit, number_of, number_below, NumberLaws};
 
-// Every number is below this.
-pub(crate) const NUMBERS: u64 = 4_294_967_296;
+// The largest sign.
+pub(crate) const MAX_SIGN: u32 = 65_535;
 
-// Every sign is below this.
-pub(crate) const SIGNS: u64 = 65_536;
+// The largest start.
+pub(crate) const MAX_START: u32 = 1;
 
-// Every start is below this.
-pub(crate) const STARTS: u64 = 2;
-
-// Whether a byte is a digit.
-fn is_digit(b: u8) -> bool
-    ensures { result ≡ digit b }
+// The number with one more digit written after it, if that is a number.
+fn with_digit(value: u32, b: u8) -> Option<u32>
+    ensures { result ≡ cond (digit b && nat_lt (value * 10 + (b - 48)) (2 ^ 32)) (Some (value * 10 + (b - 48))) None }
 {
-    b >= b'0' && b <= b'9'
+    if !b.is_ascii_digit() {
+        return None;
+    }
+    value.checked_mul(10)?.checked_add(u32::from(b - b'0'))
 }
 
 // The number that a field is, if it is one.
 pub fn read_number(field: &[u8]) -> Option<u32>
     ensures { result ≡ number_of field.now }
 {
-    if field.is_empty() || (field.len() > 1 && field[0] == b'0') {
+    if let [] | [b'0', _, ..] = field {
         return None;
     }
-    let mut value: u64 = 0;
+    let mut value = 0;
     for b in field {
-        if !is_digit(*b) {
-            return None;
-        }
-        value = value * 10 + (*b - b'0') as u64;
-        if value >= NUMBERS {
-            return None;
-        }
+        value = with_digit(value, *b)?;
     }
-    Some(value as u32)
+    Some(value)
 }
 
-// The number that a field is, if it is one and below the bound.
-pub(crate) fn read_below(field: &[u8], bound: u64) -> Option<u32>
-    requires { bound ≤ 2 ^ 32 }
-    ensures read { result ≡ number_below bound field.now }
-    ensures below { IfSome result (λ n. n < bound) }
+// The number that a field is, if it is one and no more than the largest.
+pub(crate) fn read_up_to(field: &[u8], max: u32) -> Option<u32>
+    ensures read { result ≡ number_below (max + 1) field.now }
+    ensures within { IfSome result (λ n. n ≤ max) }
 {
-    match read_number(field) {
-        Some(n) if (n as u64) < bound => Some(n),
-        _ => None,
-    }
+    read_number(field).filter(|n| *n <= max)
 }
 
 // The numeral of a number reads back as it, and a number has no other numeral.

@@ -2,40 +2,42 @@
 use crate::coded::{decode, take_word};
 use crate::maps::{run_map, run_save};
 use crate::rows::run_rules;
-use crate::said::{put, put_coded};
+use crate::said::put_coded;
 use checking::check::check;
 use std::alloc::Global;
+use std::io;
+use std::io::Write;
 
 // `check MAP RULES`: what the checker writes.
-fn run_check(heap: Global, out: &mut Vec<u8>, rest: &str) {
+fn run_check(heap: Global, out: &mut Vec<u8>, rest: &str) -> io::Result<()> {
     let (map, rules) = take_word(rest);
+    let map = decode(heap, map)?;
+    let rules = decode(heap, rules)?;
     let mut bytes = [0; 1024];
-    let written = check(
-        decode(heap, map).as_slice(),
-        decode(heap, rules).as_slice(),
-        &mut bytes,
-    );
-    put_coded(out, &bytes, written.unwrap_or(0));
+    match check(map.as_slice(), rules.as_slice(), &mut bytes) {
+        Ok(n) => put_coded(out, &bytes[..n]),
+        Err(_) => Ok(()),
+    }
 }
 
 // Appends the line of what a case gives.
-fn run_case(heap: Global, out: &mut Vec<u8>, line: &str) {
+fn run_case(heap: Global, out: &mut Vec<u8>, line: &str) -> io::Result<()> {
     let (kind, rest) = take_word(line);
     match kind {
         "check" => run_check(heap, out, rest),
         "map" => run_map(heap, out, rest),
         "rules" => run_rules(heap, out, rest),
         "save" => run_save(heap, out, rest),
-        _ => put(out, b"no such case"),
-    }
-    put(out, &[10]);
+        _ => write!(out, "no such case"),
+    }?;
+    writeln!(out)
 }
 
 // What the cases give, a line for each.
-pub(crate) fn run_cases(heap: Global, cases: &str) -> Vec<u8> {
+pub(crate) fn run_cases(heap: Global, cases: &str) -> io::Result<Vec<u8>> {
     let mut out = Vec::new(heap);
     for line in cases.lines() {
-        run_case(heap, &mut out, line);
+        run_case(heap, &mut out, line)?;
     }
-    out
+    Ok(out)
 }

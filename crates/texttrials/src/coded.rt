@@ -1,7 +1,6 @@
 // Texts in a case: `|` stands for byte 9, `/` for byte 10, `~` and two hexadecimal digits for any byte. Segments parted by commas
 // stand one after the other; `N*` before a segment repeats it N times.
-use crate::said::put;
-use std::alloc::Global;
+use std::alloc::{AllocError, Global};
 
 // The value of a hexadecimal digit, 0 where it is none.
 fn hex(b: u8) -> u8 {
@@ -22,17 +21,17 @@ fn plain(b: u8) -> u8 {
 }
 
 // Appends the bytes that a segment stands for.
-fn put_segment(out: &mut Vec<u8>, segment: &[u8]) {
+fn put_segment(out: &mut Vec<u8>, segment: &[u8]) -> Result<(), AllocError> {
     let mut rest = segment;
     loop {
         match rest {
-            [] => return,
+            [] => return Ok(()),
             [b'~', high, low, more @ ..] => {
-                put(out, &[hex(*high).wrapping_mul(16) | hex(*low)]);
+                out.push(hex(*high).wrapping_mul(16) | hex(*low))?;
                 rest = more;
             }
             [b, more @ ..] => {
-                put(out, &[plain(*b)]);
+                out.push(plain(*b))?;
                 rest = more;
             }
         }
@@ -56,18 +55,19 @@ pub(crate) fn take_number(rest: &str) -> (usize, &str) {
 }
 
 // Appends what a segment stands for, as often as it says.
-fn put_segments(out: &mut Vec<u8>, segment: &str) {
+fn put_segments(out: &mut Vec<u8>, segment: &str) -> Result<(), AllocError> {
     let (count, body) = segment.split_once('*').unwrap_or(("1", segment));
     for _ in 0..number(count) {
-        put_segment(out, body.as_bytes());
+        put_segment(out, body.as_bytes())?;
     }
+    Ok(())
 }
 
 // The text that a word stands for.
-pub(crate) fn decode(heap: Global, word: &str) -> Vec<u8> {
+pub(crate) fn decode(heap: Global, word: &str) -> Result<Vec<u8>, AllocError> {
     let mut out = Vec::new(heap);
     for segment in word.split(',') {
-        put_segments(&mut out, segment);
+        put_segments(&mut out, segment)?;
     }
-    out
+    Ok(out)
 }

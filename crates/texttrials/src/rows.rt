@@ -1,47 +1,42 @@
 // Cases of rule texts.
 use crate::coded::{decode, take_number};
-use crate::said::{put, put_coded, say_fault};
+use crate::said::{Said, put_coded};
 use listed::table::ListedMap;
 use look::switch::SwitchLook;
 use ruletext::read::read_rules;
 use saving::rows::write_rules;
 use session::held::Session;
 use std::alloc::Global;
+use std::io;
+use std::io::Write;
 
 // Appends what reading a rule text into a session on the map answers, and the rows that the session has then.
 fn say_read(
-    heap: Global,
     out: &mut Vec<u8>,
     text: &[u8],
     session: &mut Session,
     map: &ListedMap<'_, SwitchLook>,
     sheet: &[u64],
-) {
+) -> io::Result<()> {
     match read_rules(text, session, map, sheet) {
-        Ok(()) => put(out, b"ok"),
-        Err(fault) => say_fault(heap, out, fault),
+        Ok(()) => write!(out, "ok")?,
+        Err(fault) => write!(out, "{}", Said(fault))?,
     }
+    write!(out, " rows:")?;
     let mut bytes = [0; 2048];
     let n = write_rules(&session.rules(), &mut bytes).unwrap_or(0);
-    put(out, b" rows:");
-    put_coded(out, &bytes, n);
+    put_coded(out, &bytes[..n])
 }
 
 // `rules WORDS TEXT`: what comes of reading the text into a session on a map of two states, lent a sheet of so many words.
-pub(crate) fn run_rules(heap: Global, out: &mut Vec<u8>, rest: &str) {
+pub(crate) fn run_rules(heap: Global, out: &mut Vec<u8>, rest: &str) -> io::Result<()> {
     let (words, text) = take_number(rest);
+    let text = decode(heap, text)?;
+    let sheet = vec![in heap; 0; words]?;
     let looks = [SwitchLook { marks: 1 }, SwitchLook { marks: 2 }];
     let map = ListedMap::new(&looks, &[1, 0], &[0, 1, 2], &[1, 0]);
-    if let Ok(mut session) = Session::open(&map, &mut [0; 2])
-        && let Ok(sheet) = vec![in heap; 0; words]
-    {
-        say_read(
-            heap,
-            out,
-            decode(heap, text).as_slice(),
-            &mut session,
-            &map,
-            sheet.as_slice(),
-        );
+    match Session::open(&map, &mut [0; 2]) {
+        Ok(mut session) => say_read(out, text.as_slice(), &mut session, &map, sheet.as_slice()),
+        Err(_) => Ok(()),
     }
 }

@@ -1,12 +1,15 @@
 -- Fields put one after the other. Assumes nothing.
-use Rattle.std.proofs.Common.{ℕ, List, ◌∷◌, ◌++◌, Option, sym, ap}
-use Rattle.std.proofs.lemmas.List.{append_assoc}
+use Rattle.std.proofs.Common.{◌≡◌, ℕ, ◌+◌, ◌<◌, ◌≤◌, List, ◌∷◌, ◌++◌, map, length, get_or, drop, sym, ap, ◌∙◌}
+use Rattle.std.proofs.lemmas.List.{append_assoc, at_drop_more, at_drop_all}
+use Rattle.text.specs.Numbers.{written}
 use Rattle.text.specs.Written.{tabbed}
-use Rattle.writing.specs.Places.{Put}
-use Rattle.writing.proofs.Joins.{put_same}
-use Rattle.writing.specs.declared.pen.Pen.{Pen}
 
--- after a front, a field, the fields that follow it, and an end
-pub fields_joined : {pen : Pen} {b a : List ℕ} {at : ℕ} {r : Option ℕ} (front field : List ℕ) (fields : List (List ℕ)) (end : List ℕ)
-    → Put pen b at (front ++ ((9 ∷ field) ++ (tabbed fields ++ end))) a r → Put pen b at (front ++ (tabbed (field ∷ fields) ++ end)) a r
-fields_joined front field fields end p = put_same (ap (λ t. front ++ (9 ∷ t)) (sym (append_assoc field (tabbed fields) end))) p
+-- the fields from number i on, and an end
+abbrev pub fields_from : List ℕ → List ℕ → ℕ → List ℕ
+fields_from end ns i = tabbed (map written (drop i ns)) ++ end
+
+pub one_field : (end ns : List ℕ) (i : ℕ) → i < length ns → (9 ∷ written (get_or ns i 0)) ++ fields_from end ns (i + 1) ≡ fields_from end ns i
+one_field end ns i h = ap (λ t. 9 ∷ t) (sym (append_assoc (written (get_or ns i 0)) (tabbed (map written (drop (i + 1) ns))) end)) ∙ sym (at_drop_more (λ l. tabbed (map written l) ++ end) ns i 0 h)
+
+pub no_field : (end ns : List ℕ) (i : ℕ) → length ns ≤ i → end ≡ fields_from end ns i
+no_field end ns i h = sym (at_drop_all (λ l. tabbed (map written l) ++ end) ns i h)

@@ -1,3 +1,4 @@
 pub mod Joins
 mod Digits
-pub mod Fields
+mod Over
+mod Fields

@@ -1,3 +1,5 @@
 pub mod Faults
-pub mod Places
+pub mod Sinks
+pub mod Writes
+pub mod Laws
 pub mod Saves

@@ -2,10 +2,11 @@
 ghost use Rattle.writing.specs.Faults.{refusal};
 
 use map::refusal::Refusal;
+use thiserror::Error;
 
-#[derive(Clone, Copy, PartialEq, Eq, Debug)]
+#[derive(Clone, Copy, PartialEq, Eq, Debug, Error)]
 pub enum SaveFault {
-    // the text is longer than the buffer
+    #[error("the text is longer than the buffer")]
     NoRoom,
 }
 

@@ -1,7 +1,8 @@
-// Bytes, numbers and lines put into a lent buffer, first only counted against the room and then written.
+// Bytes, numbers, lines and whole texts put into a sink, and texts saved into a lent buffer.
 #![tactic(auto)]
 
 pub mod fault;
 pub mod line;
 pub mod number;
-pub mod pen;
+pub mod save;
+pub mod sink;

@@ -1,70 +1,62 @@
-// Lines put into a buffer.
-ghost use Rattle.std.specs.Prelude.{[], ◌∷◌, ◌++◌};
+// Lines put into a sink.
+ghost use Rattle.std.specs.Prelude.{[], ◌∷◌, ◌++◌, map, ⊤};
 ghost use Rattle.text.specs.Numbers.{written};
 ghost use Rattle.text.specs.Written.{tabbed, written_line};
 ghost use Rattle.text.specs.declared.line.Line.TheVariants.{Rule};
-ghost use Rattle.writing.specs.Places.{Put};
+ghost use Rattle.writing.specs.Sinks.{Put};
 
+use crate::fault::SaveFault;
 use crate::number::put_number;
-use crate::pen::{Pen, put_bytes};
+use crate::save::Text;
+use crate::sink::Sink;
 use stl::row::Row;
 use text::line::Line;
 
 // Puts a field that is a number, with byte 9 in front.
-pub fn put_field(pen: Pen, out: &mut [u8], at: usize, n: u32) -> Option<usize>
-    ensures { Put pen out.old at (9 ∷ written n) out.new result }
+fn put_field<S: Sink>(sink: &mut S, n: u32) -> Result<(), SaveFault>
+    ensures { Put S.room S.puts S.keeps sink.old (9 ∷ written n) result sink.new }
 {
-    let at = put_bytes(pen, out, at, &[9])?;
-    put_number(pen, out, at, n)
+    sink.put(b"\t")?;
+    put_number(sink, n)
 }
 
-// Puts the last field of a line, and its byte 10.
-pub fn put_last(pen: Pen, out: &mut [u8], at: usize, n: u32) -> Option<usize>
-    ensures { Put pen out.old at (tabbed (written n ∷ []) ++ (10 ∷ [])) out.new result }
+// Puts a line that begins so and goes on with these numbers.
+pub fn put_fields<S: Sink>(sink: &mut S, front: &[u8], numbers: &[u32]) -> Result<(), SaveFault>
+    ensures { Put S.room S.puts S.keeps sink.old (front.now ++ (tabbed (map written numbers.now) ++ (10 ∷ []))) result sink.new }
 {
-    let at = put_field(pen, out, at, n)?;
-    put_bytes(pen, out, at, &[10])
-}
-
-// Puts a line that begins so and goes on with one number.
-fn put_one(pen: Pen, out: &mut [u8], at: usize, front: &[u8], a: u32) -> Option<usize>
-    ensures { Put pen out.old at (front.now ++ (tabbed (written a ∷ []) ++ (10 ∷ []))) out.new result }
-{
-    let at = put_bytes(pen, out, at, front)?;
-    put_last(pen, out, at, a)
-}
-
-// Puts a line that begins so and goes on with two numbers.
-fn put_two(pen: Pen, out: &mut [u8], at: usize, front: &[u8], a: u32, b: u32) -> Option<usize>
-    ensures { Put pen out.old at (front.now ++ (tabbed (written a ∷ (written b ∷ [])) ++ (10 ∷ []))) out.new result }
-{
-    let at = put_bytes(pen, out, at, front)?;
-    let at = put_field(pen, out, at, a)?;
-    put_last(pen, out, at, b)
+    sink.put(front)?;
+    for n in numbers {
+        put_field(sink, *n)?;
+    }
+    sink.put(b"\n")
 }
 
 // Puts the line of a row.
-fn put_row(pen: Pen, out: &mut [u8], at: usize, row: Row) -> Option<usize>
-    ensures { Put pen out.old at (written_line (Rule row) ++ (10 ∷ [])) out.new result }
+fn put_row<S: Sink>(sink: &mut S, row: Row) -> Result<(), SaveFault>
+    ensures { Put S.room S.puts S.keeps sink.old (written_line (Rule row) ++ (10 ∷ [])) result sink.new }
 {
     match row {
-        Row::True => put_bytes(pen, out, at, b"R\ttrue\n"),
-        Row::Sign(k) => put_one(pen, out, at, b"R\tsign", k as u32),
-        Row::Not(a) => put_one(pen, out, at, b"R\tnot", a),
-        Row::Or(a, b) => put_two(pen, out, at, b"R\tor", a, b),
-        Row::Next(a) => put_one(pen, out, at, b"R\tnext", a),
-        Row::Until(a, b) => put_two(pen, out, at, b"R\tuntil", a, b),
+        Row::True => put_fields(sink, b"R\ttrue", &[]),
+        Row::Sign(k) => put_fields(sink, b"R\tsign", &[u32::from(k)]),
+        Row::Not(a) => put_fields(sink, b"R\tnot", &[a]),
+        Row::Or(a, b) => put_fields(sink, b"R\tor", &[a, b]),
+        Row::Next(a) => put_fields(sink, b"R\tnext", &[a]),
+        Row::Until(a, b) => put_fields(sink, b"R\tuntil", &[a, b]),
     }
 }
 
-// Puts a line and its byte 10 at `at`: the place after them, or None where there is no room.
-pub fn put_line(pen: Pen, out: &mut [u8], at: usize, line: Line) -> Option<usize>
-    ensures { Put pen out.old at (written_line line ++ (10 ∷ [])) out.new result }
-{
-    match line {
-        Line::Map(size) => put_one(pen, out, at, b"M", size),
-        Line::State(look, start) => put_two(pen, out, at, b"S", look, start as u32),
-        Line::Target(target) => put_one(pen, out, at, b"T", target),
-        Line::Rule(row) => put_row(pen, out, at, row),
+impl Text for Line {
+    ghost text = { λ line. written_line line ++ (10 ∷ []) };
+
+    ghost shown = { λ line. ⊤ };
+
+    // Puts the line and its byte 10.
+    fn put_into<S: Sink>(&self, sink: &mut S) -> Result<(), SaveFault> {
+        match *self {
+            Line::Map(size) => put_fields(sink, b"M", &[size]),
+            Line::State(look, start) => put_fields(sink, b"S", &[look, u32::from(start)]),
+            Line::Target(target) => put_fields(sink, b"T", &[target]),
+            Line::Rule(row) => put_row(sink, row),
+        }
     }
 }

@@ -1,11 +1,12 @@
-// Numerals put into a buffer.
-ghost use Rattle.std.specs.Prelude.{◌≡◌, ◌≤◌, length, drop, None};
+// Numerals put into a sink.
+ghost use Rattle.std.specs.Prelude.{◌≡◌, ◌≤◌, length, drop, OnErr};
 ghost use Rattle.text.specs.Numbers.{written};
-ghost use Rattle.writing.specs.Places.{Put};
+ghost use Rattle.writing.specs.Sinks.{Put};
 
-use crate::pen::{Pen, put_bytes};
+use crate::fault::SaveFault;
+use crate::sink::Sink;
 
-// Writes the numeral of n at the end of the digits: where it begins.
+// Writes the numeral of n at the end of the digits: where it begins. It stays beside `write!`, which does not promise when it fails.
 fn fill_digits(digits: &mut [u8; 10], n: u32) -> usize
     ensures within { result ≤ 10 }
     ensures filled { drop result digits.new ≡ written n }
@@ -21,12 +22,12 @@ fn fill_digits(digits: &mut [u8; 10], n: u32) -> usize
     first
 }
 
-// Puts the numeral of n at `at`: the place after it, or None where there is no room, and then nothing is put.
-pub fn put_number(pen: Pen, out: &mut [u8], at: usize, n: u32) -> Option<usize>
-    ensures put { Put pen out.old at (written n) out.new result }
-    ensures refused { result ≡ None → out.new ≡ out.old }
+// Puts the numeral of n, or nothing where there is no room for it.
+pub fn put_number<S: Sink>(sink: &mut S, n: u32) -> Result<(), SaveFault>
+    ensures put { Put S.room S.puts S.keeps sink.old (written n) result sink.new }
+    ensures refused { OnErr result (sink.new ≡ sink.old) }
 {
     let mut digits = [0; 10];
     let first = fill_digits(&mut digits, n);
-    put_bytes(pen, out, at, &digits[first..])
+    sink.put(&digits[first..])
 }

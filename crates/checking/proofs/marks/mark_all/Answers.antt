@@ -1,4 +1,4 @@
-use Rattle.std.proofs.Common.{length, sym, ap, ◌∙◌, arith}
+use Rattle.std.proofs.Common.{length, ap, ◌∙◌, arith}
 use Rattle.calls.proofs.Keeping.{kept_after}
 use Rattle.calls.specs.Answers.{State}
 use Rattle.calls.specs.Effects.{alone}

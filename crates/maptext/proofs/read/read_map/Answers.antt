@@ -1,21 +1,18 @@
-use Rattle.std.proofs.Common.{◌≡◌, ◌≤◌, true, length, sym, ap, ◌∙◌, arith, rules}
-use Rattle.listed.specs.Tables.{tables}
+use Rattle.std.proofs.Common.{◌≡◌, true, None, ap, ◌∙◌, rules}
 use Rattle.reader.specs.Texts.{text_lines}
-use Rattle.maptext.specs.MapTexts.{MapRead, complete}
-use Rattle.maptext.specs.Steps.{reading}
+use Rattle.maptext.specs.Lent.{tables_in}
+use Rattle.maptext.specs.MapTexts.{MapRead, complete, closed, all_taken, map_read}
+use Rattle.maptext.specs.Readers.{reading_of}
 use Rattle.maptext.proofs.Whole.{whole, held_closed}
 use Rattle.maptext.proofs.read.read_map.Goals as goal
 
-pub returns : goal.returns
-returns c =
+pub returns-clause-held : goal.returns-clause-held
+returns-clause-held c =
     let text = c.args.text.now in
-    let last = c.read_lines.new in
-    let t = tables c.args.looks.now c.args.starts.now c.args.firsts.now c.args.targets.now in
-    let x = reading c.in_ok-at.at (tables last.looks last.starts last.firsts last.targets) in
-    let few : length text ≤ 60000 = omega arith in
-    let all : complete c.in_ok-at.at ≡ true = search rules in
-    let w = whole text t few x c.in_ok-at.ensures.read.0 all in
-    record {
-      answer = c.close.ensures.answer ∙ sym (ap (λ (r : MapRead). r.answer) w);
-      held = ap (λ fs. tables last.looks last.starts fs last.targets) c.close.ensures.firsts ∙ sym (held_closed (text_lines text) x) ∙ sym (ap (λ (r : MapRead). r.held) w);
-    }
+    let t = tables_in c.args.tables.now in
+    let x = reading_of c.read_text.new.reader in
+    let fine : (all_taken text t).fault ≡ None = search rules in
+    let e : all_taken text t ≡ record { left = x; fault = None } = search rules in
+    let all : complete x.at ≡ true = search rules in
+    let w : (map_read text t).held ≡ closed x = ap (λ (r : MapRead). r.held) (whole text t x e all) ∙ held_closed (text_lines text) x in
+    search rules

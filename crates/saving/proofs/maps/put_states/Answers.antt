@@ -1,27 +1,23 @@
-use Rattle.std.proofs.Common.{◌≡◌, ◌^◌, ◌<◌, ap, ◌∙◌, arith, below_more}
+use Rattle.std.proofs.Common.{◌≡◌, ◌^◌, ◌<◌, ap, ◌∙◌, arith, below_more, rules}
 use Rattle.writing.proofs.Joins.{put_same, put_nothing}
-use Rattle.saving.specs.ReadBack.{LooksFit}
 use Rattle.saving.specs.Texts.{marks_of}
-use Rattle.saving.proofs.Lines.{state_at, all_states, none_answered}
-use Rattle.saving.proofs.Pieces.{pieces, put_more, put_stop}
+use Rattle.saving.proofs.Lines.{state_at, all_states}
+use Rattle.saving.proofs.Pieces.{pieces, put_more, put_short}
 use Rattle.saving.proofs.maps.put_states.Goals as goal
 
 pub loop-s-init : goal.loop-s-init
-loop-s-init g c = (λ s h. absurd (omega arith), put_nothing _ _ _ c.requires)
+loop-s-init g c = (λ s h. absurd (omega arith), put_nothing g.met.S.Sink.laws _)
 
-pub returns-in_err-at : goal.returns-in_err-at
-returns-in_err-at g c =
+pub returns-in_err-put_state-clause-put : goal.returns-in_err-put_state-clause-put
+returns-in_err-put_state-clause-put g c =
     let m = g.M.Map.meaning c.args.map.now in
-    record {
-      fit = none_answered (LooksFit m) c.from_residual.ensures;
-      put = put_same (all_states m m.size) (put_stop (state_at m) c.loop-s.s m.size (omega arith) c.loop-s.invariant.1 c.in_err-at.ensures.put c.from_residual.ensures);
-    }
+    put_same (all_states m m.size) (put_short g.met.S.Sink.laws (state_at m) c.loop-s.s m.size (omega arith) c.loop-s.invariant.1 c.in_err-put_state.ensures.put c.from_residual.ensures.0)
 
 pub loop-s-preserved : goal.loop-s-preserved
 loop-s-preserved g c =
     let m = g.M.Map.meaning c.args.map.now in (
-      below_more (λ s. marks_of (m.look s) < 2 ^ 32) c.loop-s.s c.loop-s.invariant.0 c.in_ok-at.ensures.fits,
-      put_more (state_at m) c.loop-s.s c.loop-s.invariant.1 c.in_ok-at.ensures.put,
+      below_more (λ s. marks_of (m.look s) < 2 ^ 32) c.loop-s.s c.loop-s.invariant.0 c.in_ok-put_state.ensures.fits,
+      put_more g.met.S.Sink.laws (state_at m) c.loop-s.s c.loop-s.invariant.1 c.in_ok-put_state.ensures.put,
     )
 
 pub returns : goal.returns

@@ -1,4 +1,4 @@
-use Rattle.std.proofs.Common.{◌≡◌, ◌^◌, ◌<◌, drop}
+use Rattle.std.proofs.Common.{◌≡◌, ◌<◌, ◌^◌, drop}
 use Rattle.text.specs.Numbers.{number_of}
 use Rattle.text.proofs.Numerals.{read_on}
 use Rattle.text.proofs.number.read_number.Given as goal

@@ -1,11 +1,16 @@
-use Rattle.text.proofs.Parting.{past_end, past_more, past_here}
+use Rattle.std.proofs.Common.{arith}
+use Rattle.std.proofs.lemmas.Grind.{common_steps}
+use Rattle.text.proofs.Parting.{before_place, after_place}
 use Rattle.text.proofs.split.split_first.Goals as goal
 
-pub returns-then-b-at : goal.returns-then-b-at
-returns-then-b-at c = let p = past_here c.args.at c.args.bytes.now c.loop-i.i c.loop-i-test.true c.if-b-at.true c.loop-i.invariant in record { first = p.0; after = p.1 }
+pub returns-in-Some-clause-first : goal.returns-in-Some-clause-first
+returns-in-Some-clause-first c = grind (arith, common_steps, before_place c.args.at c.args.bytes.now)
 
-pub loop-i-preserved : goal.loop-i-preserved
-loop-i-preserved c = past_more c.args.at c.args.bytes.now c.loop-i.i c.loop-i-test.true c.if-b-at.false c.loop-i.invariant
+pub returns-in-Some-clause-after : goal.returns-in-Some-clause-after
+returns-in-Some-clause-after c = grind (arith, common_steps, after_place c.args.at c.args.bytes.now)
 
-pub returns : goal.returns
-returns c = let p = past_end c.args.at c.args.bytes.now c.loop-i.i c.loop-i-test.false c.loop-i.invariant in record { first = p.0; after = p.1 }
+pub returns-in-None-clause-first : goal.returns-in-None-clause-first
+returns-in-None-clause-first c = grind (arith, common_steps, before_place c.args.at c.args.bytes.now)
+
+pub returns-in-None-clause-after : goal.returns-in-None-clause-after
+returns-in-None-clause-after c = grind (arith, common_steps, after_place c.args.at c.args.bytes.now)

@@ -1,0 +1,19 @@
+use Rattle.std.proofs.Common.{ap}
+use Rattle.reader.specs.Texts.{written_text}
+use Rattle.text.specs.declared.line.Line.TheVariants.{Map}
+use Rattle.writing.proofs.Joins.{put_same, put_then, put_stop}
+use Rattle.saving.specs.Texts.{ended, first_states}
+use Rattle.saving.proofs.Lines.{text_more}
+use Rattle.saving.proofs.maps.MapTextText.put_into.Goals as goal
+
+pub returns-in_err-put_into-clause-put : goal.returns-in_err-put_into-clause-put
+returns-in_err-put_into-clause-put g c =
+    let m = g.M.Map.meaning c.args.self.now.0.now in
+    put_same (text_more (Map m.size) (first_states m m.size))
+    (put_stop g.met.S.Sink.laws (written_text (first_states m m.size)) (put_same (ap (λ n. ended (Map n)) c.size.ensures) c.in_err-put_into.ensures.put) c.from_residual.ensures.0)
+
+pub returns-clause-put : goal.returns-clause-put
+returns-clause-put g c =
+    let m = g.M.Map.meaning c.args.self.now.0.now in
+    put_same (text_more (Map m.size) (first_states m m.size))
+    (put_then g.met.S.Sink.laws (put_same (ap (λ n. ended (Map n)) c.size.ensures) c.in_ok-put_into.ensures.put) c.put_states.ensures.put)

@@ -1,0 +1,32 @@
+// Whole texts, saved into a lent buffer.
+ghost use Rattle.std.specs.Prelude.{ℕ, List, OnOk};
+ghost use Rattle.writing.specs.Saves.{Saved};
+ghost use Rattle.writing.specs.Sinks.{Put};
+
+use crate::fault::SaveFault;
+use crate::sink::{Buffer, Counter, Sink};
+
+// What is put as a text.
+pub trait Text {
+    ghost text: { Self → List ℕ };
+
+    // what its values are known to be once it is put
+    ghost shown: { Self → Type 0 };
+
+    // Puts the text into a sink.
+    fn put_into<S: Sink>(&self, sink: &mut S) -> Result<(), SaveFault>
+        ensures put { Put S.room S.puts S.keeps sink.old (text self.now) result sink.new }
+        ensures shown { OnOk result (shown self.now) };
+}
+
+// Saves a text: its length, or no room and nothing written.
+pub fn save<T: Text>(text: &T, out: &mut [u8]) -> Result<usize, SaveFault>
+    ensures saved { Saved (T.text text.now) out.old out.new result }
+    ensures shown { OnOk result (T.shown text.now) }
+{
+    let mut counter = Counter { left: out.len() };
+    text.put_into(&mut counter)?;
+    let length = out.len() - counter.left;
+    text.put_into(&mut Buffer { out, at: 0 })?;
+    Ok(length)
+}
