@@ -1,8 +1,8 @@
 -- An answer is carried across a fold, and from one valuation to another that says the same. Assumes nothing.
+use Rattle.std.specs.Prelude.{◌↔◌}
 use Rattle.std.proofs.Common.{◌≡◌, ℕ, ◌<◌, ◌≤◌, true, ◌⊎◌, length, Some, None, Option, sym, refl, subst, inl, inr, arith}
 use Rattle.std.proofs.lemmas.Bool.{cases_lt}
 use Rattle.stl.specs.Folds.{Folds}
-use Rattle.stl.specs.Iff.{◌⇔◌}
 use Rattle.stl.specs.Rows.{named, row_at, Reach}
 use Rattle.stl.specs.Structures.{Structure, WellFormed}
 use Rattle.stl.specs.Until.{Greatest}
@@ -20,14 +20,14 @@ use Rattle.calls.specs.declared.fault.SessionFault.{SessionFault}
 use Rattle.calls.proofs.Questions.{may_mark, may_label, may_judge, may_seek, for_operands, class_of, same_questions}
 
 -- one after the other
-pub then : {A B C : Type 0} → A ⇔ B → B ⇔ C → A ⇔ C
+pub then : {A B C : Type 0} → A ↔ B → B ↔ C → A ↔ C
 then e f = ((λ x. f.0 (e.0 x)), (λ x. e.1 (f.1 x)))
 
 -- what is found of runs goes across a fold
 module _ (full folded : Structure) (class : ℕ → ℕ) (well : WellFormed full) (fold : Folds full folded class)
     (A B C D : ℕ → Type 0) (f : Across full class A C) (g : Across full class B D) where
   -- what is found from the class is the same
-  pub found_forth : WellFormed folded → (s room space : ℕ) → ((n : ℕ) → n < folded.size → (n < room) ⇔ (n < space)) → {a : Answer} → s < full.size → Found full A B s room a → Found folded C D (class s) space a
+  pub found_forth : WellFormed folded → (s room space : ℕ) → ((n : ℕ) → n < folded.size → (n < room) ↔ (n < space)) → {a : Answer} → s < full.size → Found full A B s room a → Found folded C D (class s) space a
   found_forth welled s room space rooms h (none w) = none (λ rest r. let over = lifted full folded class well fold A B C D f g s rest h r in w over.0 over.1)
   found_forth welled s room space rooms h (short n l w) = short n (length_forth full folded class well fold A B C D f g s n h l) (go (cases_lt n space))
     where
@@ -47,13 +47,13 @@ module _ (full folded : Structure) (class : ℕ → ℕ) (well : WellFormed full
       (λ x y h k. greatest_forth full folded class well fold (V x) (V y) (W x) (W y) (agree x h) (agree y k) n) w
 
   -- all starts have a row, on both or on neither
-  starts_forth : (r : ℕ) → r < st.marked → ((s : ℕ) → full.start s ≡ true → V r s) ⇔ ((d : ℕ) → folded.start d ≡ true → W r d)
+  starts_forth : (r : ℕ) → r < st.marked → ((s : ℕ) → full.start s ≡ true → V r s) ↔ ((d : ℕ) → folded.start d ≡ true → W r d)
   starts_forth r h = (
     (λ f d e. let over = fold.started d (welled.starts d e) e in subst (W r) over.3 ((agree r h over.0 over.1).0 (f over.0 over.2))),
     (λ f s e. let k = well.starts s e in (agree r h s k).1 (f (class s) (fold.starts s k e))),
   )
 
-  module _ (l m : Lent) (rooms : (n : ℕ) → n < folded.size → (n < l.run) ⇔ (n < m.run)) where
+  module _ (l m : Lent) (rooms : (n : ℕ) → n < folded.size → (n < l.run) ↔ (n < m.run)) where
     -- what a call grants
     granted_forth : {c d : Call} {a : Answer} {after : State} → Alike full folded class c d → first_no (questions full st l c) ≡ None → Grants full V st l c a after → Grants folded W st m d a after
     granted_forth (Alike.add row) q (Grants.added row') = Grants.added row
@@ -79,7 +79,7 @@ module _ (full folded : Structure) (class : ℕ → ℕ) (well : WellFormed full
     decided_forth a after e (Some f) q w = w
 
     -- the answer on the full structure is the answer on the folded one
-    pub answers_forth : {c d : Call} (a : Answer) (after : State) → Alike full folded class c d → (full.size ≤ l.sheet) ⇔ (folded.size ≤ m.sheet) → (full.size ≤ l.work) ⇔ (folded.size ≤ m.work) →
+    pub answers_forth : {c d : Call} (a : Answer) (after : State) → Alike full folded class c d → (full.size ≤ l.sheet) ↔ (folded.size ≤ m.sheet) → (full.size ≤ l.work) ↔ (folded.size ≤ m.work) →
         Answers full V st l c a after → Answers folded W st m d a after
     answers_forth {c} {d} a after e p q w =
         subst (Decided folded W st m d a after) (same_questions full folded class fold st l m p q e)

@@ -1,10 +1,10 @@
 -- What a call gives once its questions are answered, one lemma for each answer. Assumes nothing.
+use Rattle.std.specs.Prelude.{◌↔◌}
 use Rattle.std.proofs.Common.{◌≡◌, ℕ, ◌+◌, ◌<◌, ◌≤◌, Bool, true, false, ltb, leb, List, [], ◌∷◌, ◌++◌, length, Some, None, Option, sym, refl, ap, subst, arith}
 use Rattle.std.proofs.lemmas.Bool.{lt-ltb, le-ltb, le-leb, lt-leb}
 use Rattle.lengths.specs.Sheets.{by_sheet, Labelled}
 use Rattle.map.proofs.Asked.{passes, stops}
 use Rattle.map.specs.Questions.{ask, first_no}
-use Rattle.stl.specs.Iff.{◌⇔◌}
 use Rattle.stl.specs.Rows.{named, is_until, row_at, ForUntil, Reach}
 use Rattle.stl.specs.Structures.{Structure}
 use Rattle.stl.specs.declared.row.Row.{Row}
@@ -39,13 +39,13 @@ module _ {k : Structure} {st : State} {t : Tables} where
       (passes (questions k st (lent t) (call.Add row)) (le-leb _ _ h, (lt-ltb (length st.rows) 64 (omega arith), (subst (λ m. named row m ≡ true) (sym e) j, tt))))
       (added row) refl))
 
-  pub label_given : {s r : ℕ} {b : Bool} → k.size ≤ length t.sheet → s < k.size → r < st.marked → (b ≡ true) ⇔ by_sheet t.sheet r s → Gives k st t (call.Label s r) (answer.Label b) st t
+  pub label_given : {s r : ℕ} {b : Bool} → k.size ≤ length t.sheet → s < k.size → r < st.marked → (b ≡ true) ↔ by_sheet t.sheet r s → Gives k st t (call.Label s r) (answer.Label b) st t
   label_given {s = s} {r = r} {b = b} h i j e =
       granted
       (passes (questions k st (lent t) (call.Label s r)) (le-leb _ _ h, (lt-ltb _ _ i, (lt-ltb _ _ j, tt))))
       (label s r b e) refl
 
-  pub verdict_given : {r : ℕ} {b : Bool} → k.size ≤ length t.sheet → r < st.marked → (b ≡ true) ⇔ ((s : ℕ) → k.start s ≡ true → by_sheet t.sheet r s) → Gives k st t (call.Verdict r) (answer.Verdict b) st t
+  pub verdict_given : {r : ℕ} {b : Bool} → k.size ≤ length t.sheet → r < st.marked → (b ≡ true) ↔ ((s : ℕ) → k.start s ≡ true → by_sheet t.sheet r s) → Gives k st t (call.Verdict r) (answer.Verdict b) st t
   verdict_given {r = r} {b = b} h j e =
       granted
       (passes (questions k st (lent t) (call.Verdict r)) (le-leb _ _ h, (lt-ltb _ _ j, tt)))

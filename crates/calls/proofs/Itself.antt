@@ -1,10 +1,10 @@
 -- A structure is a fold of itself: so what holds across folds holds from one valuation to another. Assumes nothing.
+use Rattle.std.specs.Prelude.{◌↔◌}
 use Rattle.std.proofs.Common.{◌≡◌, ℕ, ◌<◌, ◌≤◌, true, ltb, ◌⊎◌, List, map, get_or, refl, subst, inl, inr, map-id}
 use Rattle.std.proofs.lemmas.Bool.{ltb-true, and_parts, cases_lt}
 use Rattle.lengths.specs.Tables.{Measured, Filled}
 use Rattle.stl.specs.Folds.{Folds}
 use Rattle.stl.specs.Formulas.{Formula, top, Holds, build}
-use Rattle.stl.specs.Iff.{◌⇔◌}
 use Rattle.stl.specs.Rows.{named, Satisfied}
 use Rattle.stl.specs.Structures.{Structure, WellFormed}
 use Rattle.stl.specs.Until.{Shortest}
@@ -51,11 +51,11 @@ module _ (k : Structure) where
 
   module _ (well : WellFormed k) where
     -- a shortest run by one valuation is one by another
-    pub shortest_same : (A B C D : ℕ → Type 0) → ((s : ℕ) → s < k.size → A s ⇔ C s) → ((s : ℕ) → s < k.size → B s ⇔ D s) → (s : ℕ) (rest : List ℕ) → s < k.size → Shortest k A B s rest → Shortest k C D s rest
+    pub shortest_same : (A B C D : ℕ → Type 0) → ((s : ℕ) → s < k.size → A s ↔ C s) → ((s : ℕ) → s < k.size → B s ↔ D s) → (s : ℕ) (rest : List ℕ) → s < k.size → Shortest k A B s rest → Shortest k C D s rest
     shortest_same A B C D f g s rest h w = subst (Shortest k C D s) (map-id rest) (shortest_through k k same well itself A B C D f g s rest h w)
 
     -- so are the shortest lengths
-    pub filled_same : (A B C D : ℕ → Type 0) → ((s : ℕ) → s < k.size → A s ⇔ C s) → ((s : ℕ) → s < k.size → B s ⇔ D s) → (before after : List ℕ) → Filled k A B before after → Filled k C D before after
+    pub filled_same : (A B C D : ℕ → Type 0) → ((s : ℕ) → s < k.size → A s ↔ C s) → ((s : ℕ) → s < k.size → B s ↔ D s) → (before after : List ℕ) → Filled k A B before after → Filled k C D before after
     filled_same A B C D f g before after w = record { sized = w.sized; here = λ s h. go s (get_or after s 0) h (w.here s h); past = w.past }
       where
         go : (s n : ℕ) → s < k.size → Measured k A B s n → Measured k C D s n
@@ -63,8 +63,8 @@ module _ (k : Structure) where
         go s n h (inr l) = inr (length_forth k k same well itself A B C D f g s n h l)
 
     -- what the rows named say, as labels or as formulas, decides a row
-    pub satisfied_built : (V : ℕ → ℕ → Type 0) (fs : List Formula) (q : ℕ) → ((r s : ℕ) → r < q → s < k.size → V r s ⇔ Holds k (get_or fs r top) s) →
-        (row : Row) (s : ℕ) → named row q ≡ true → s < k.size → Satisfied k V row s ⇔ Holds k (build fs row) s
+    pub satisfied_built : (V : ℕ → ℕ → Type 0) (fs : List Formula) (q : ℕ) → ((r s : ℕ) → r < q → s < k.size → V r s ↔ Holds k (get_or fs r top) s) →
+        (row : Row) (s : ℕ) → named row q ≡ true → s < k.size → Satisfied k V row s ↔ Holds k (build fs row) s
     satisfied_built V fs q f True s n h = ((λ x. x), (λ x. x))
     satisfied_built V fs q f (Sign x) s n h = ((λ x. x), (λ x. x))
     satisfied_built V fs q f (Not a) s n h = let e = f a s (ltb-true a q n) h in ((λ x y. x (e.1 y)), (λ x y. x (e.0 y)))
@@ -75,8 +75,8 @@ module _ (k : Structure) where
     )
     satisfied_built V fs q f (Until a b) s n h =
         let p = and_parts (ltb a q) (ltb b q) n in
-        let A : (t : ℕ) → t < k.size → V a t ⇔ Holds k (get_or fs a top) t = λ t j. f a t (ltb-true a q p.0) j in
-        let B : (t : ℕ) → t < k.size → V b t ⇔ Holds k (get_or fs b top) t = λ t j. f b t (ltb-true b q p.1) j in (
+        let A : (t : ℕ) → t < k.size → V a t ↔ Holds k (get_or fs a top) t = λ t j. f a t (ltb-true a q p.0) j in
+        let B : (t : ℕ) → t < k.size → V b t ↔ Holds k (get_or fs b top) t = λ t j. f b t (ltb-true b q p.1) j in (
           (λ x. (map same x.0, through k k same well itself (V a) (V b) (Holds k (get_or fs a top)) (Holds k (get_or fs b top)) A B s x.0 h x.1)),
           (λ x. let over = lifted k k same well itself (V a) (V b) (Holds k (get_or fs a top)) (Holds k (get_or fs b top)) A B s x.0 h x.1 in (over.0, over.1)),
         )

@@ -1,4 +1,5 @@
 -- What a session and its sheet keep to, from call to call. Assumes nothing.
+use Rattle.std.specs.Prelude.{◌↔◌}
 use Rattle.std.proofs.Common.{◌≡◌, ℕ, ◌+◌, ◌<◌, ◌≤◌, true, ◌⊎◌, List, [], ◌∷◌, ◌++◌, length, get_or, Some, None, Option, sym, refl, ap, ◌∙◌, subst, subst₂, inl, inr, not-suc-le-zero, arith, length-append}
 use lib.ListN.{get_or-append}
 use lib.Seq.{get_or_at}
@@ -8,7 +9,6 @@ use Rattle.look.specs.Bits.{bit_on}
 use Rattle.lengths.specs.Sheets.{by_sheet, Labelled}
 use Rattle.map.specs.Questions.{first_no}
 use Rattle.stl.specs.Formulas.{Holds, formulas}
-use Rattle.stl.specs.Iff.{◌⇔◌}
 use Rattle.stl.specs.Rows.{named, row_at, ForUntil, by_logic}
 use Rattle.stl.specs.Structures.{Structure, WellFormed}
 use Rattle.stl.specs.declared.row.Row.{Row}
@@ -53,7 +53,7 @@ module _ (k : Structure) where
       few = omega (arith, length-append st.rows (row ∷ []));
       counted = omega (arith, kept.counted, length-append st.rows (row ∷ []));
       earlier = λ r h. go r h (cases_lt r (length st.rows));
-      faithful = λ r s h i. subst (λ f. by_sheet sheet r s ⇔ Holds k f s) (sym (formula_stays st.rows (row ∷ []) r (omega (arith, kept.counted)))) (kept.faithful r s h i);
+      faithful = λ r s h i. subst (λ f. by_sheet sheet r s ↔ Holds k f s) (sym (formula_stays st.rows (row ∷ []) r (omega (arith, kept.counted)))) (kept.faithful r s h i);
       blank = kept.blank;
     }
       where
@@ -74,17 +74,17 @@ module _ (k : Structure) where
       blank = λ r s i j. w.other r s (λ e. omega arith) ∙ kept.blank r s (omega arith) j;
     }
       where
-        here : (s : ℕ) → s < k.size → by_sheet after st.marked s ⇔ by_logic k st.rows st.marked s
+        here : (s : ℕ) → s < k.size → by_sheet after st.marked s ↔ by_logic k st.rows st.marked s
         here s j =
             let named_here = kept.earlier st.marked h in
             let built = satisfied_built k well (by_sheet sheet) (formulas st.rows) st.marked kept.faithful (row_at st.rows st.marked) s named_here j in
-            subst (λ f. by_sheet after st.marked s ⇔ Holds k f s) (sym (formula_at st.rows st.marked h named_here)) (then (w.here s j) built)
+            subst (λ f. by_sheet after st.marked s ↔ Holds k f s) (sym (formula_at st.rows st.marked h named_here)) (then (w.here s j) built)
 
-        go : (r s : ℕ) → r < st.marked + 1 → s < k.size → (r < st.marked) ⊎ (st.marked ≤ r) → by_sheet after r s ⇔ by_logic k st.rows r s
-        go r s i j (inl l) = subst (λ b. (b ≡ true) ⇔ by_logic k st.rows r s) (sym (w.other r s (λ e. omega arith))) (kept.faithful r s l j)
+        go : (r s : ℕ) → r < st.marked + 1 → s < k.size → (r < st.marked) ⊎ (st.marked ≤ r) → by_sheet after r s ↔ by_logic k st.rows r s
+        go r s i j (inl l) = subst (λ b. (b ≡ true) ↔ by_logic k st.rows r s) (sym (w.other r s (λ e. omega arith))) (kept.faithful r s l j)
         go r s i j (inr l) =
             let e : st.marked ≡ r = omega arith in
-            subst (λ q. by_sheet after q s ⇔ by_logic k st.rows q s) e (here s j)
+            subst (λ q. by_sheet after q s ↔ by_logic k st.rows q s) e (here s j)
 
   module _ (well : WellFormed k) (st : State) (t : Tables) (kept : Kept k st t.sheet) where
     -- a call that no question stopped

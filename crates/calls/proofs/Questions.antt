@@ -1,9 +1,9 @@
 -- The questions of a call: what a yes to all says, and that a fold keeps the answers. Assumes nothing.
+use Rattle.std.specs.Prelude.{◌↔◌}
 use Rattle.std.proofs.Common.{◌≡◌, ℕ, suc, ◌<◌, ◌≤◌, Bool, true, false, ltb, leb, List, [], ◌∷◌, length, Some, None, Option, sym, refl, ap, ◌∙◌, subst, inl, inr, arith}
 use Rattle.std.proofs.lemmas.Bool.{leb-true, le-leb, lt-leb, and_parts, ltb-true}
 use Rattle.map.specs.Questions.{Question, ask, first_no}
 use Rattle.stl.specs.Folds.{Folds}
-use Rattle.stl.specs.Iff.{◌⇔◌}
 use Rattle.stl.specs.Rows.{named, is_until, row_at, ForUntil}
 use Rattle.stl.specs.Structures.{Structure}
 use Rattle.stl.specs.declared.row.Row.{Row}
@@ -18,7 +18,7 @@ use Rattle.calls.specs.declared.fault.SessionFault.TheVariants.{ShortSheet, TooM
 use Rattle.calls.proofs.Unique.{bool_same}
 
 -- tests of orders that say the same
-leb_same : (a b c d : ℕ) → (a ≤ b) ⇔ (c ≤ d) → leb a b ≡ leb c d
+leb_same : (a b c d : ℕ) → (a ≤ b) ↔ (c ≤ d) → leb a b ≡ leb c d
 leb_same a b c d e = bool_same (leb a b) (leb c d) ((λ h. le-leb c d (e.0 (leb-true a b h))), (λ h. le-leb a b (e.1 (leb-true c d h))))
 
 -- no question was answered no: so not the first
@@ -95,12 +95,12 @@ module _ (full folded : Structure) (class : ℕ → ℕ) where
 
   module _ (fold : Folds full folded class) where
     -- a state is there exactly when what it is read as is
-    there : (s d : ℕ) → SameState full folded class s d → (s < full.size) ⇔ (d < folded.size)
+    there : (s d : ℕ) → SameState full folded class s d → (s < full.size) ↔ (d < folded.size)
     there s d (inl e) = ((λ h. subst (λ x. x < folded.size) (sym e.1) (fold.within s h)), (λ h. e.0))
     there s d (inr e) = ((λ h. absurd (omega (arith, e.0))), (λ h. absurd (omega (arith, e.1))))
 
     -- the questions after the first have the same answers
-    further_same : (st : State) (l m : Lent) → (full.size ≤ l.work) ⇔ (folded.size ≤ m.work) → {c d : Call} → Alike full folded class c d → first_no (further full st l c) ≡ first_no (further folded st m d)
+    further_same : (st : State) (l m : Lent) → (full.size ≤ l.work) ↔ (folded.size ≤ m.work) → {c d : Call} → Alike full folded class c d → first_no (further full st l c) ≡ first_no (further folded st m d)
     further_same st l m w (Alike.add row) = refl
     further_same st l m w Alike.mark = refl
     further_same st l m w (Alike.label s d r h) = ap (λ b. first_no (ask b NoSuchState ∷ ask (ltb r st.marked) NotMarked ∷ [])) (leb_same (suc s) full.size (suc d) folded.size (there s d h))
@@ -111,7 +111,7 @@ module _ (full folded : Structure) (class : ℕ → ℕ) where
         λ i. first_no (ask (p i) NoSuchState ∷ ask (ltb r st.marked) NotMarked ∷ ask (is_until (row_at st.rows r)) NotUntil ∷ ask (q i) ShortWork ∷ [])
 
     -- the same question is the first to be answered no
-    pub same_questions : (st : State) (l m : Lent) → (full.size ≤ l.sheet) ⇔ (folded.size ≤ m.sheet) → (full.size ≤ l.work) ⇔ (folded.size ≤ m.work) → {c d : Call} → Alike full folded class c d →
+    pub same_questions : (st : State) (l m : Lent) → (full.size ≤ l.sheet) ↔ (folded.size ≤ m.sheet) → (full.size ≤ l.work) ↔ (folded.size ≤ m.work) → {c d : Call} → Alike full folded class c d →
         first_no (questions full st l c) ≡ first_no (questions folded st m d)
     same_questions st l m e w {c} {d} same =
         ap (λ b. first_no (ask b ShortSheet ∷ further full st l c)) (leb_same full.size l.sheet folded.size m.sheet e)

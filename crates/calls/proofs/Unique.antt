@@ -1,8 +1,8 @@
 -- A call has one answer, and leaves the session one way. Assumes nothing.
+use Rattle.std.specs.Prelude.{◌↔◌}
 use Rattle.std.proofs.Common.{◌≡◌, ℕ, ◌<◌, ◌≤◌, Bool, true, false, ◌⊎◌, Some, None, Option, sym, refl, ap, ◌∙◌, inl, inr, arith}
 use Rattle.std.proofs.lemmas.Bool.{cases_lt}
 use Rattle.map.specs.Questions.{first_no}
-use Rattle.stl.specs.Iff.{◌⇔◌}
 use Rattle.stl.specs.Rows.{row_at, ForUntil, Reach, by_logic}
 use Rattle.stl.specs.Structures.{Structure}
 use Rattle.stl.specs.Until.{Length, Greatest}
@@ -17,7 +17,7 @@ use Rattle.calls.specs.declared.fault.SessionFault.{SessionFault}
 use Rattle.calls.specs.declared.fault.SessionFault.TheVariants.{ShortRun}
 
 -- tests that say the same are the same
-pub bool_same : (b c : Bool) → (b ≡ true) ⇔ (c ≡ true) → b ≡ c
+pub bool_same : (b c : Bool) → (b ≡ true) ↔ (c ≡ true) → b ≡ c
 bool_same true true e = refl
 bool_same true false e = sym (e.0 refl)
 bool_same false true e = e.1 refl

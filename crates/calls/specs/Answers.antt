@@ -1,8 +1,7 @@
 -- What a session answers to a call: from the structure, the rows, the arguments, the lengths of the tables, and what each row
 -- says at each state. Assumes nothing.
-use Rattle.std.specs.Prelude.{◌≡◌, ℕ, ◌+◌, ◌<◌, ◌≤◌, Bool, true, List, [], ◌∷◌, ◌++◌, length, Some, None, Option, nat_le, nat_lt}
+use Rattle.std.specs.Prelude.{◌≡◌, ℕ, ◌+◌, ◌<◌, ◌≤◌, Bool, true, List, [], ◌∷◌, ◌++◌, length, Some, None, Option, nat_le, nat_lt, ◌↔◌}
 use Rattle.map.specs.Questions.{Question, ask, first_no}
-use Rattle.stl.specs.Iff.{◌⇔◌}
 use Rattle.stl.specs.Rows.{named, is_until, row_at, ForUntil, Reach, by_logic}
 use Rattle.stl.specs.Structures.{Structure}
 use Rattle.stl.specs.Until.{Reaches, Length}
@@ -47,8 +46,8 @@ pub data Found (k : Structure) (A B : ℕ → Type 0) (s : ℕ) (room : ℕ) : A
 pub data Grants (k : Structure) (V : ℕ → ℕ → Type 0) (st : State) (l : Lent) : Call → Answer → State → Type 0 where
   added : (row : Row) → Grants k V st l (call.Add row) (answer.Added (length st.rows)) (record { rows = st.rows ++ (row ∷ []); marked = st.marked })
   marked : (n : ℕ) → Reach k V (row_at st.rows st.marked) n → Grants k V st l call.Mark (answer.Marked st.marked n) (record { rows = st.rows; marked = st.marked + 1 })
-  label : (s r : ℕ) (b : Bool) → (b ≡ true) ⇔ V r s → Grants k V st l (call.Label s r) (answer.Label b) st
-  verdict : (r : ℕ) (b : Bool) → (b ≡ true) ⇔ ((s : ℕ) → k.start s ≡ true → V r s) → Grants k V st l (call.Verdict r) (answer.Verdict b) st
+  label : (s r : ℕ) (b : Bool) → (b ≡ true) ↔ V r s → Grants k V st l (call.Label s r) (answer.Label b) st
+  verdict : (r : ℕ) (b : Bool) → (b ≡ true) ↔ ((s : ℕ) → k.start s ≡ true → V r s) → Grants k V st l (call.Verdict r) (answer.Verdict b) st
   witness : (s r : ℕ) (a : Answer) → ForUntil (row_at st.rows r) (λ x y. Found k (V x) (V y) s l.run a) ⊥ → Grants k V st l (call.Witness s r) a st
 
 -- a refusal leaves the session as it was

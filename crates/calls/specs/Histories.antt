@@ -1,9 +1,8 @@
 -- Histories: any list of calls of a session on one structure, and what is right of them. Assumes nothing.
-use Rattle.std.specs.Prelude.{◌≡◌, ℕ, ◌+◌, ◌<◌, ◌≤◌, true, false, List, [], ◌∷◌, length, take, None, Ok, Err, Result, slice_index}
+use Rattle.std.specs.Prelude.{◌≡◌, ℕ, ◌+◌, ◌<◌, ◌≤◌, true, false, List, [], ◌∷◌, length, take, None, Ok, Err, Result, slice_index, ◌↔◌}
 use Rattle.lengths.specs.Sheets.{label_of, by_sheet}
 use Rattle.lengths.specs.Tables.{Filled}
 use Rattle.map.specs.Questions.{first_no}
-use Rattle.stl.specs.Iff.{◌⇔◌}
 use Rattle.stl.specs.Rows.{named, row_at, ForUntil, by_logic}
 use Rattle.stl.specs.Structures.{Structure}
 use Rattle.stl.specs.Until.{Shortest}
@@ -42,7 +41,7 @@ pub record Kept (k : Structure) (st : State) (sheet : List ℕ) : Type 0 where
   pub counted : st.marked ≤ length st.rows
   pub earlier : (r : ℕ) → r < length st.rows → named (row_at st.rows r) r ≡ true
   -- a marked row's label is on exactly where its formula is satisfied
-  pub faithful : (r s : ℕ) → r < st.marked → s < k.size → by_sheet sheet r s ⇔ by_logic k st.rows r s
+  pub faithful : (r s : ℕ) → r < st.marked → s < k.size → by_sheet sheet r s ↔ by_logic k st.rows r s
   -- no other bit is on
   pub blank : (r s : ℕ) → st.marked ≤ r → s < k.size → label_of sheet r s ≡ false
 

@@ -1,5 +1,5 @@
 -- What the checker writes of a map text and a rule text. Assumes nothing.
-use Rattle.std.specs.Prelude.{◌≡◌, ℕ, ◌<◌, Bool, true, false, cond, List, [], ◌∷◌, ◌++◌, length, drop, replicate, Some, None, Ok, Err, codes, Option, Result, ◌==◌, nat_le, slice_index_or}
+use Rattle.std.specs.Prelude.{◌≡◌, ℕ, ◌<◌, Bool, true, false, cond, List, [], ◌∷◌, ◌++◌, length, drop, replicate, Some, None, Ok, Err, codes, Option, Result, ◌==◌, nat_le, slice_index_or, ◌↔◌}
 use Rattle.calls.specs.Opening.{fresh}
 use Rattle.listed.specs.Tables.{Tables, tables, listed}
 use Rattle.look.specs.Switch.{switch_sign}
@@ -13,7 +13,6 @@ use Rattle.report.specs.Results.{nothing}
 use Rattle.report.specs.Texts.{report_text}
 use Rattle.report.specs.declared.found.Found.{Found}
 use Rattle.ruletext.specs.RuleTexts.{rule_read}
-use Rattle.stl.specs.Iff.{◌⇔◌}
 use Rattle.stl.specs.Rows.{row_at, Reach, by_logic}
 use Rattle.stl.specs.Structures.{Structure}
 use Rattle.stl.specs.declared.row.Row.{Row}
@@ -32,7 +31,7 @@ fault_text text fault = fault_line text (number_of fault.what) fault.line (field
 
 -- what is found of row r is what the logic says: whether every start satisfies the row, and the row's reach
 pub record SaysLogic (k : Structure) (rows : List Row) (r : ℕ) (found : Found) : Type 0 where
-  pub verdict : (found.yes ≡ true) ⇔ ((s : ℕ) → k.start s ≡ true → by_logic k rows r s)
+  pub verdict : (found.yes ≡ true) ↔ ((s : ℕ) → k.start s ≡ true → by_logic k rows r s)
   pub reach : Reach k (by_logic k rows) (row_at rows r) found.reach
 
 -- the report of all rows, by the logic over runs of any length

@@ -1,5 +1,5 @@
 -- Labels asked through a fold: the label of a full state is that of its class on the folded map. Assumes nothing.
-use Rattle.std.specs.Prelude.{◌≡◌, ℕ, ◌<◌, Bool, true, ◌&&◌, List, [], ◌∷◌, length, Some, None, Ok, Err, Option, Result, nat_le, nat_lt}
+use Rattle.std.specs.Prelude.{◌≡◌, ℕ, ◌<◌, Bool, true, ◌&&◌, List, [], ◌∷◌, length, Some, None, Ok, Err, Option, Result, nat_le, nat_lt, ◌↔◌}
 use Rattle.calls.specs.Answers.{State}
 use Rattle.calls.specs.Histories.{Moment, History}
 use Rattle.calls.specs.declared.fault.SessionFault.{SessionFault}
@@ -8,7 +8,6 @@ use Rattle.lengths.specs.Sheets.{label_of}
 use Rattle.map.specs.Meaning.{Meaning, Bounded, structure}
 use Rattle.map.specs.Questions.{Question, ask, first_no}
 use Rattle.sharing.specs.Accepts.{class_of, Accepts}
-use Rattle.stl.specs.Iff.{◌⇔◌}
 use Rattle.stl.specs.Rows.{by_logic}
 
 -- s has a class, which is one of n states
@@ -34,4 +33,4 @@ SpeaksOfFull {L} sign same folded table st sheet s r x =
     (full : Meaning L) → Bounded full → Accepts sign same full folded table →
     (past : List Moment) → History (structure sign folded) st sheet past →
     s < full.size → r < st.marked →
-    (b : Bool) × (x ≡ Ok b) × ((b ≡ true) ⇔ by_logic (structure sign full) st.rows r s)
+    (b : Bool) × (x ≡ Ok b) × ((b ≡ true) ↔ by_logic (structure sign full) st.rows r s)

@@ -1,9 +1,8 @@
 -- What is found of an offered fold: each question is asked of all states before the next, and the first no decides. Assumes nothing.
-use Rattle.std.specs.Prelude.{◌≡◌, ℕ, ◌<◌, Bool, ◌⊎◌, List, length, Some, None, Option}
+use Rattle.std.specs.Prelude.{◌≡◌, ℕ, ◌<◌, Bool, ◌⊎◌, List, length, Some, None, Option, ◌↔◌}
 use Rattle.std.specs.Option.{unwrap_or}
 use Rattle.map.specs.Meaning.{Meaning}
 use Rattle.sharing.specs.Accepts.{HasClass, LooksAlike, MovesForth, MovesBack, StartsForth, StartsBack, IsClass, Accepts}
-use Rattle.stl.specs.Iff.{◌⇔◌}
 use Rattle.foldcheck.specs.Faults.{refusal}
 use Rattle.foldcheck.specs.declared.fault.FoldFault.{FoldFault}
 use Rattle.foldcheck.specs.declared.fault.FoldFault.TheVariants.{WrongLength, NoClass, OtherLook, MoveLost, MoveAdded, StartLost, StartAdded, NotAClass}
@@ -48,4 +47,4 @@ module _ {L : Type 0} (sign : L → ℕ → Bool) (same : L → L → Bool) (ful
 
 -- the check accepts exactly when all has a yes, and refuses with a fault exactly when that is the first no
 abbrev pub Decided : {L : Type 0} → (L → ℕ → Bool) → (L → L → Bool) → Meaning L → Meaning L → List ℕ → Option FoldFault → Type 0
-Decided sign same full folded table o = (v : Option FoldFault) → Judges sign same full folded table v ⇔ (v ≡ o)
+Decided sign same full folded table o = (v : Option FoldFault) → Judges sign same full folded table v ↔ (v ≡ o)

@@ -1,9 +1,9 @@
 -- The labels of one row, word by word: the rows that it names stay as they were. Assumes nothing.
+use Rattle.std.specs.Prelude.{◌↔◌}
 use Rattle.std.proofs.Common.{◌≡◌, ℕ, ◌+◌, ◌<◌, ◌≤◌, Bool, true, cond, not, eqb, ltb, ◌⊎◌, List, length, get_or, set, sym, refl, ap, ◌∙◌, subst, ap₂, inl, inr, ⊎_elim, arith}
 use Rattle.std.proofs.lemmas.List.{get_or-set_same, get_or-set_other, length-set}
 use Rattle.std.proofs.lemmas.Bool.{cases_eq, and_parts, ltb-true, eq-eqb, ne_eqb, eqb-false, cond-true, cond-false, not-true, not_from_false}
 use Rattle.look.specs.Bits.{bit_on}
-use Rattle.stl.specs.Iff.{◌⇔◌}
 use Rattle.stl.specs.Rows.{Satisfied, named}
 use Rattle.stl.specs.Structures.{Structure, Move, WellFormed}
 use Rattle.stl.specs.Until.{Until as Reaching}
@@ -39,7 +39,7 @@ module _ (k : Structure) (x y : List ℕ) (r : ℕ) (same : (q s : ℕ) → (q �
   timed_same (Until a b) work h = let p = and_parts (ltb a r) (ltb b r) h in ap₂ (λ P Q. (s : ℕ) → s < k.size → Measured k P Q s (get_or work s 0)) (row_same a p.0) (row_same b p.1)
 
 -- one state more
-module _ {k : Structure} {before : List ℕ} {r : ℕ} {row : Row} {n : ℕ} {sheet : List ℕ} (w : ℕ) {b : Bool} (p : Labelled k before r row n sheet) (l : n < length sheet) (h : named row r ≡ true) (is : (b ≡ true) ⇔ Satisfied k (by_sheet sheet) row n) (bits : (j : ℕ) → bit_on w j ≡ cond (eqb j r) b (bit_on (get_or sheet n 0) j)) where
+module _ {k : Structure} {before : List ℕ} {r : ℕ} {row : Row} {n : ℕ} {sheet : List ℕ} (w : ℕ) {b : Bool} (p : Labelled k before r row n sheet) (l : n < length sheet) (h : named row r ≡ true) (is : (b ≡ true) ↔ Satisfied k (by_sheet sheet) row n) (bits : (j : ℕ) → bit_on w j ≡ cond (eqb j r) b (bit_on (get_or sheet n 0) j)) where
   -- the new word stands there
   word : get_or (set sheet n w) n 0 ≡ w
   word = get_or-set_same sheet n w 0 l
@@ -67,7 +67,7 @@ module _ {k : Structure} {before : List ℕ} {r : ℕ} {row : Row} {n : ℕ} {sh
   labelled_more = record {
     sized = length-set sheet n w ∙ p.sized;
     here = λ s m. ⊎_elim
-        (λ e. subst (λ t. by_sheet (set sheet n w) r t ⇔ Satisfied k (by_sheet before) row t) (sym e)
+        (λ e. subst (λ t. by_sheet (set sheet n w) r t ↔ Satisfied k (by_sheet before) row t) (sym e)
         ((λ x. subst (λ T. T) back (is.0 (sym new ∙ x))), (λ x. new ∙ is.1 (subst (λ T. T) (sym back) x))))
         (λ ne. let q = p.here s (omega arith) in ((λ x. q.0 (sym (old r s ne) ∙ x)), (λ x. old r s ne ∙ q.1 x)))
         (cases_eq s n);
@@ -79,7 +79,7 @@ module _ {k : Structure} {before : List ℕ} {r : ℕ} {row : Row} {n : ℕ} {sh
   }
 
 -- an entry that is no 4294967295 says that there is a run
-timed_is : (k : Structure) (A B : ℕ → Type 0) → WellFormed k → k.size ≤ 4096 → (s w : ℕ) → s < k.size → Measured k A B s w → (not (eqb w 4294967295) ≡ true) ⇔ Reaching k A B s
+timed_is : (k : Structure) (A B : ℕ → Type 0) → WellFormed k → k.size ≤ 4096 → (s w : ℕ) → s < k.size → Measured k A B s w → (not (eqb w 4294967295) ≡ true) ↔ Reaching k A B s
 timed_is k A B formed fits s w h (inl x) = (
   (λ e. absurd (eqb-false w 4294967295 (not-true _ e) x.0)),
   (λ y. absurd (x.1 y.0 y.1)),
@@ -90,7 +90,7 @@ timed_is k A B formed fits s w h (inr x) = (
 )
 
 -- an until is satisfied where the entry is no 4294967295
-pub timed_row : (k : Structure) (sheet work : List ℕ) → WellFormed k → k.size ≤ 4096 → (row : Row) (a b : ℕ) → row ≡ Until a b → (s : ℕ) → s < k.size → Timed k sheet work row → (not (eqb (get_or work s 0) 4294967295) ≡ true) ⇔ Satisfied k (by_sheet sheet) row s
+pub timed_row : (k : Structure) (sheet work : List ℕ) → WellFormed k → k.size ≤ 4096 → (row : Row) (a b : ℕ) → row ≡ Until a b → (s : ℕ) → s < k.size → Timed k sheet work row → (not (eqb (get_or work s 0) 4294967295) ≡ true) ↔ Satisfied k (by_sheet sheet) row s
 timed_row k sheet work formed fits row a b e s h t =
-    subst (λ w. (not (eqb (get_or work s 0) 4294967295) ≡ true) ⇔ Satisfied k (by_sheet sheet) w s) (sym e)
+    subst (λ w. (not (eqb (get_or work s 0) 4294967295) ≡ true) ↔ Satisfied k (by_sheet sheet) w s) (sym e)
     (timed_is k (by_sheet sheet a) (by_sheet sheet b) formed fits s (get_or work s 0) h (subst (Timed k sheet work) e t s h))

@@ -1,4 +1,5 @@
 -- What a session says of a marked row. Assumes nothing.
+use Rattle.std.specs.Prelude.{◌↔◌}
 use Rattle.std.proofs.Common.{◌≡◌, ℕ, ◌<◌, ◌≤◌, Bool, true, List, length, Ok, Err, Result, refl, subst}
 use Rattle.std.proofs.lemmas.Bool.{lt-ltb, le-leb}
 use Rattle.calls.specs.Answers.{State, questions, Grants, verdict, Decided}
@@ -11,7 +12,6 @@ use Rattle.lengths.specs.Sheets.{by_sheet}
 use Rattle.map.proofs.Asked.{passes}
 use Rattle.session.specs.Reaches.{reach_questions, ReachGiven, ReachDecided, ReachAnswers}
 use Rattle.session.specs.Sessions.{answered}
-use Rattle.stl.specs.Iff.{◌⇔◌}
 use Rattle.stl.specs.Rows.{row_at, Reach}
 use Rattle.stl.specs.Structures.{Structure}
 use Rattle.report.specs.Results.{Right}
@@ -26,7 +26,7 @@ module _ (k : Structure) (st : State) (sheet : List ℕ) (r : ℕ) (h : k.size �
   Says (answer.Added n) = ⊥
   Says (answer.Marked n m) = ⊥
   Says (answer.Label b) = ⊥
-  Says (answer.Verdict b) = (b ≡ true) ⇔ Everywhere
+  Says (answer.Verdict b) = (b ≡ true) ↔ Everywhere
   Says (answer.Witness n) = ⊥
   Says (answer.Refused f) = ⊥
 

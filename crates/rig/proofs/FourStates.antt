@@ -1,4 +1,5 @@
 -- The four-state map and its eight rows, state by state. Assumes nothing.
+use Rattle.std.specs.Prelude.{◌↔◌}
 use Rattle.std.proofs.Common.{◌≡◌, ℕ, zero, suc, ◌<◌, ◌≤◌, Bool, true, false, ◌⊎◌, List, [], ◌∷◌, length, get_or, None, sym, refl, subst, inl, inr, ⊎_elim, arith, below_none, below_more}
 use Rattle.std.proofs.lemmas.Bool.{false≢true}
 use Rattle.look.specs.Bits.{bit_on}
@@ -6,7 +7,6 @@ use Rattle.look.specs.Switch.{switch_sign}
 use Rattle.look.specs.declared.switch.SwitchLook.{SwitchLook}
 use Rattle.listed.specs.Tables.{tables, listed}
 use Rattle.map.specs.Meaning.{structure}
-use Rattle.stl.specs.Iff.{◌⇔◌}
 use Rattle.stl.specs.Rows.{by_logic}
 use Rattle.stl.specs.Structures.{Structure, Move}
 use Rattle.stl.specs.Until.{Reaches, Shortest}
@@ -28,10 +28,10 @@ abbrev RowHolds : ℕ → ℕ → Type 0
 RowHolds q s = by_logic k rows q s
 
 -- a label that is on, and one that is off
-on : {P : Type 0} → P → (true ≡ true) ⇔ P
+on : {P : Type 0} → P → (true ≡ true) ↔ P
 on p = ((λ _. p), (λ _. refl))
 
-off : {P : Type 0} → (P → ⊥) → (false ≡ true) ⇔ P
+off : {P : Type 0} → (P → ⊥) → (false ≡ true) ↔ P
 off n = ((λ e. absurd (false≢true e)), (λ p. absurd (n p)))
 
 -- the moves, and that there are no others from 0 and 2, and none from 3
@@ -104,7 +104,7 @@ four : (P : ℕ → Type 0) → P 0 → P 1 → P 2 → P 3 → (s : ℕ) → s 
 four P a b c d = below_more P 3 (below_more P 2 (below_more P 1 (below_more P 0 (below_none P) a) b) c) d
 
 abbrev Labelled : ℕ → ℕ → Type 0
-Labelled q s = (bit_on (get_or (89 ∷ (221 ∷ (87 ∷ (99 ∷ [])))) s 0) q ≡ true) ⇔ RowHolds q s
+Labelled q s = (bit_on (get_or (89 ∷ (221 ∷ (87 ∷ (99 ∷ [])))) s 0) q ≡ true) ↔ RowHolds q s
 
 abbrev RowLabelled : ℕ → Type 0
 RowLabelled q = (s : ℕ) → s < 4 → Labelled q s

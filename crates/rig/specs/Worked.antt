@@ -1,5 +1,5 @@
 -- The worked example, by the definitions. Assumes nothing.
-use Rattle.std.specs.Prelude.{◌≡◌, ℕ, ◌<◌, true, false, List, [], ◌∷◌, map, None, slice_index}
+use Rattle.std.specs.Prelude.{◌≡◌, ℕ, ◌<◌, true, false, List, [], ◌∷◌, map, None, slice_index, ◌↔◌}
 use Rattle.look.specs.Bits.{bit_on}
 use Rattle.look.specs.Level.{level_same}
 use Rattle.look.specs.Switch.{switch_sign}
@@ -8,7 +8,6 @@ use Rattle.look.specs.declared.switch.SwitchLook.{SwitchLook}
 use Rattle.map.specs.Meaning.{Meaning, structure}
 use Rattle.map.specs.Questions.{first_no}
 use Rattle.listed.specs.Tables.{Tables, tables, questions, listed}
-use Rattle.stl.specs.Iff.{◌⇔◌}
 use Rattle.stl.specs.Rows.{by_logic}
 use Rattle.stl.specs.Structures.{Structure}
 use Rattle.stl.specs.Until.{Shortest}
@@ -48,7 +47,7 @@ pub record WorkedFacts (r : Rig) : Type 0 where
   -- its rows, and the label words 89, 221, 87 and 99: bit q of word s is on exactly where s satisfies row q
   pub rows : r.rows ≡ True ∷ (Sign 0 ∷ (Sign 1 ∷ (Not 1 ∷ (Or 3 2 ∷ (Not 4 ∷ (Until 0 5 ∷ (Next 1 ∷ [])))))))
   pub words : r.words ≡ 89 ∷ (221 ∷ (87 ∷ (99 ∷ [])))
-  pub labels : (q : ℕ) → q < 8 → (s : ℕ) → s < 4 → (bit_on (slice_index r.words s) q ≡ true) ⇔ row_holds r q s
+  pub labels : (q : ℕ) → q < 8 → (s : ℕ) → s < 4 → (bit_on (slice_index r.words s) q ≡ true) ↔ row_holds r q s
   -- 0, 1, 3 is a shortest run for row 6 from state 0, and 3 alone from state 3
   pub run_from_0 : Shortest (four_structure r) (row_holds r 0) (row_holds r 5) 0 (1 ∷ (3 ∷ []))
   pub run_from_3 : Shortest (four_structure r) (row_holds r 0) (row_holds r 5) 3 []

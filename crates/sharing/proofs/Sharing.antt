@@ -1,4 +1,5 @@
 -- Two sessions across a fold answer alike, and each state has its class's labels. Assumes nothing.
+use Rattle.std.specs.Prelude.{◌↔◌}
 use Rattle.std.proofs.Common.{◌≡◌, ℕ, ◌+◌, ◌<◌, ◌≤◌, true, ◌⊎◌, List, ◌∷◌, map, length, get_or, take, sym, refl, ap, ◌∙◌, subst, subst₂, inl, inr, arith}
 use Rattle.std.proofs.lemmas.Bool.{cases_lt}
 use Rattle.calls.proofs.Carried.{then, answers_forth}
@@ -19,7 +20,6 @@ use Rattle.stl.proofs.FoldLengths.{shortest_through}
 use Rattle.stl.proofs.Folds.{both}
 use Rattle.stl.specs.Folds.{Folds}
 use Rattle.stl.specs.Formulas.{top, formulas}
-use Rattle.stl.specs.Iff.{◌⇔◌}
 use Rattle.stl.specs.Rows.{named, row_at, by_logic}
 use Rattle.stl.specs.Structures.{Structure, WellFormed}
 use Rattle.stl.specs.Until.{Shortest}
@@ -30,23 +30,23 @@ use Rattle.sharing.specs.Shares.{Through, Agree, Share}
 
 module _ (full folded : Structure) (class : ℕ → ℕ) (well : WellFormed full) (welled : WellFormed folded) (fold : Folds full folded class) where
   -- both have a state, or neither has
-  peopled : (0 < full.size) ⇔ (0 < folded.size)
+  peopled : (0 < full.size) ↔ (0 < folded.size)
   peopled = ((λ h. omega (arith, fold.within 0 h)), (λ h. omega (arith, (fold.onto 0 h).1)))
 
   -- what a row says by the logic, across the fold
-  logic_across : (st : State) (r s : ℕ) → s < full.size → by_logic full st.rows r s ⇔ by_logic folded st.rows r (class s)
+  logic_across : (st : State) (r s : ℕ) → s < full.size → by_logic full st.rows r s ↔ by_logic folded st.rows r (class s)
   logic_across st r s h = both full folded class well fold (get_or (formulas st.rows) r top) s h
 
   module _ (st : State) (counted : st.marked ≤ length st.rows) (earlier : (r : ℕ) → r < length st.rows → named (row_at st.rows r) r ≡ true) where
     -- the logic's answer goes across, where the tables have the same room
-    across : (l p : Lent) (c d : Call) (a : Answer) (after : State) → Alike full folded class c d → (full.size ≤ l.sheet) ⇔ (folded.size ≤ p.sheet) → (full.size ≤ l.work) ⇔ (folded.size ≤ p.work) → l.run ≡ p.run →
+    across : (l p : Lent) (c d : Call) (a : Answer) (after : State) → Alike full folded class c d → (full.size ≤ l.sheet) ↔ (folded.size ≤ p.sheet) → (full.size ≤ l.work) ↔ (folded.size ≤ p.work) → l.run ≡ p.run →
         LogicAnswers full st l c a after → LogicAnswers folded st p d a after
     across l p c d a after e sheets works runs w =
         answers_forth full folded class well welled fold (by_logic full st.rows) (by_logic folded st.rows) st counted earlier (λ r h s i. logic_across st r s i)
         l p (λ n h. ((λ i. omega arith), (λ i. omega arith))) a after e sheets works w
 
     -- and whatever room they have, where no witness is asked for
-    across_idle : (l p : Lent) (c d : Call) (a : Answer) (after : State) → NoRun c → NoRun d → Alike full folded class c d → (full.size ≤ l.sheet) ⇔ (folded.size ≤ p.sheet) →
+    across_idle : (l p : Lent) (c d : Call) (a : Answer) (after : State) → NoRun c → NoRun d → Alike full folded class c d → (full.size ≤ l.sheet) ↔ (folded.size ≤ p.sheet) →
         LogicAnswers full st l c a after → LogicAnswers folded st p d a after
     across_idle l p c d a after h i e sheets w =
         from_idle folded (by_logic folded st.rows) st p d a after i
@@ -60,7 +60,7 @@ module _ (full folded : Structure) (class : ℕ → ℕ) (well : WellFormed full
             go (inr h) = h
 
     -- at any call
-    carried : (t u : Tables) (c d : Call) (a : Answer) (after : State) → Alike full folded class c d → (full.size ≤ length t.sheet) ⇔ (folded.size ≤ length u.sheet) → ForWitness c (SameRoom full folded t u) →
+    carried : (t u : Tables) (c d : Call) (a : Answer) (after : State) → Alike full folded class c d → (full.size ≤ length t.sheet) ↔ (folded.size ≤ length u.sheet) → ForWitness c (SameRoom full folded t u) →
         LogicAnswers full st (lent t) c a after → LogicAnswers folded st (lent u) d a after
     carried t u c d a after (Alike.add row) sheets room w = across_idle (lent t) (lent u) c d a after tt tt (Alike.add row) sheets w
     carried t u c d a after Alike.mark sheets room w = across_idle (lent t) (lent u) c d a after tt tt Alike.mark sheets w

@@ -1,12 +1,11 @@
 -- Two sessions side by side, one on a full structure and one on a folded structure, issued the same calls. Assumes nothing.
-use Rattle.std.specs.Prelude.{◌≡◌, ℕ, ◌≤◌, List, [], ◌∷◌, length}
+use Rattle.std.specs.Prelude.{◌≡◌, ℕ, ◌≤◌, List, [], ◌∷◌, length, ◌↔◌}
 use Rattle.calls.specs.Alike.{Alike}
 use Rattle.calls.specs.Answers.{State}
 use Rattle.calls.specs.Effects.{Tables}
 use Rattle.calls.specs.Histories.{Moment, History}
 use Rattle.calls.specs.declared.call.Call.{Call}
 use Rattle.calls.specs.declared.call.Call.TheVariants.{Add, Mark, Label, Verdict, Witness}
-use Rattle.stl.specs.Iff.{◌⇔◌}
 use Rattle.stl.specs.Structures.{Structure}
 
 -- P where the call asks for a witness
@@ -20,13 +19,13 @@ ForWitness (Witness s r) P = P
 -- the tables lent to two witness calls: run tables of one length, and work tables that both suffice or both do not
 pub record SameRoom (full folded : Structure) (t u : Tables) : Type 0 where
   pub runs : length t.run ≡ length u.run
-  pub works : (full.size ≤ length t.work) ⇔ (folded.size ≤ length u.work)
+  pub works : (full.size ≤ length t.work) ↔ (folded.size ≤ length u.work)
 
 -- the same call on both: a state goes to the folded session as its class, a missing one as a missing one; both sheets have a word
 -- for each state, or both are too short
 pub record SameCall (full folded : Structure) (class : ℕ → ℕ) (m n : Moment) : Type 0 where
   pub asked : Alike full folded class m.asked n.asked
-  pub sheets : (full.size ≤ length m.given.sheet) ⇔ (folded.size ≤ length n.given.sheet)
+  pub sheets : (full.size ≤ length m.given.sheet) ↔ (folded.size ≤ length n.given.sheet)
   pub room : ForWitness m.asked (SameRoom full folded m.given n.given)
 
 -- of the calls of two sessions, each with its like

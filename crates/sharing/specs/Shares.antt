@@ -1,10 +1,9 @@
 -- What two sessions side by side share. Assumes nothing.
-use Rattle.std.specs.Prelude.{◌≡◌, ℕ, ◌+◌, ◌<◌, List, ◌∷◌, map, take, slice_index}
+use Rattle.std.specs.Prelude.{◌≡◌, ℕ, ◌+◌, ◌<◌, List, ◌∷◌, map, take, slice_index, ◌↔◌}
 use Rattle.calls.specs.Answers.{State}
 use Rattle.calls.specs.Histories.{Moment, Right}
 use Rattle.calls.specs.declared.call.Answer.TheVariants as answer
 use Rattle.calls.specs.declared.call.Call.TheVariants as call
-use Rattle.stl.specs.Iff.{◌⇔◌}
 use Rattle.stl.specs.Rows.{row_at, ForUntil, by_logic}
 use Rattle.stl.specs.Structures.{Structure}
 use Rattle.stl.specs.Until.{Shortest}
@@ -35,5 +34,5 @@ pub record Shared (full folded : Structure) (class : ℕ → ℕ) (st su : State
 
 -- the promise of a fold: a session can be opened on both structures or on neither, and whatever two are asked, they share
 pub record Share (full folded : Structure) (class : ℕ → ℕ) : Type 0 where
-  pub opens : (0 < full.size) ⇔ (0 < folded.size)
+  pub opens : (0 < full.size) ↔ (0 < folded.size)
   pub sessions : (st su : State) (sheet other : List ℕ) (ms ns : List Moment) → SideBySide full folded class st su sheet other ms ns → Shared full folded class st su sheet other ms ns

@@ -1,18 +1,18 @@
 -- A fold keeps what a state satisfies, and takes runs to runs both ways. Assumes nothing.
+use Rattle.std.specs.Prelude.{◌↔◌}
 use Rattle.std.proofs.Common.{◌≡◌, ℕ, ◌<◌, ◌⊎◌, List, [], ◌∷◌, map, sym, refl, ◌∙◌, subst, inl, inr}
 use Rattle.stl.specs.Folds.{Folds, FoldsKeepRules}
 use Rattle.stl.specs.Formulas.{Formula, top, sign, neg, or, next, until, Holds}
-use Rattle.stl.specs.Iff.{◌⇔◌}
 use Rattle.stl.specs.Runs.{Run, last, All}
 use Rattle.stl.specs.Structures.{Structure, WellFormed}
 use Rattle.stl.specs.Until.{Reaches}
 
 -- P of a state of the full structure is Q of its class
 abbrev pub Across : Structure → (ℕ → ℕ) → (ℕ → Type 0) → (ℕ → Type 0) → Type 0
-Across full class P Q = (s : ℕ) → s < full.size → P s ⇔ Q (class s)
+Across full class P Q = (s : ℕ) → s < full.size → P s ↔ Q (class s)
 
 -- what is either is either across
-pub either : {A B C D : Type 0} → A ⇔ C → B ⇔ D → (A ⊎ B) ⇔ (C ⊎ D)
+pub either : {A B C D : Type 0} → A ↔ C → B ↔ D → (A ⊎ B) ↔ (C ⊎ D)
 either {A} {B} {C} {D} f g = (there, again)
   where
     there : A ⊎ B → C ⊎ D
@@ -64,7 +64,7 @@ module _ (full folded : Structure) (class : ℕ → ℕ) (well : WellFormed full
         (t ∷ more.0, record { run = (step.1, more.1.run); ends = more.1.ends; keeps = ((either (f s h) (g s h)).1 r.keeps.0, more.1.keeps) }, (λ i. step.2 i ∷ more.2 i))
 
   -- a state satisfies what its class satisfies
-  pub both : (f : Formula) (s : ℕ) → s < full.size → Holds full f s ⇔ Holds folded f (class s)
+  pub both : (f : Formula) (s : ℕ) → s < full.size → Holds full f s ↔ Holds folded f (class s)
   both top s h = ((λ x. tt), (λ x. tt))
   both (sign n) s h = ((λ x. sym (fold.on s n h) ∙ x), (λ x. fold.on s n h ∙ x))
   both (neg f) s h = ((λ x y. x ((both f s h).1 y)), (λ x y. x ((both f s h).0 y)))

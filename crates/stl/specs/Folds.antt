@@ -1,7 +1,6 @@
 -- Folds: each state of a full structure has a class in a folded one, and the two behave alike. Assumes nothing.
-use Rattle.std.specs.Prelude.{◌≡◌, ℕ, ◌<◌, true}
+use Rattle.std.specs.Prelude.{◌≡◌, ℕ, ◌<◌, true, ◌↔◌}
 use Rattle.stl.specs.Formulas.{Formula, Holds}
-use Rattle.stl.specs.Iff.{◌⇔◌}
 use Rattle.stl.specs.Structures.{Structure, Move, WellFormed}
 
 -- class is a fold of full onto folded: a bisimulation that is a function, onto, and takes starts to starts
@@ -18,4 +17,4 @@ pub record Folds (full folded : Structure) (class : ℕ → ℕ) : Type 0 where
 abbrev pub FoldsKeepRules : Type 0
 FoldsKeepRules =
     (full folded : Structure) (class : ℕ → ℕ) → WellFormed full → Folds full folded class →
-    (f : Formula) (s : ℕ) → s < full.size → Holds full f s ⇔ Holds folded f (class s)
+    (f : Formula) (s : ℕ) → s < full.size → Holds full f s ↔ Holds folded f (class s)

@@ -1,6 +1,5 @@
 -- The formulas of safe temporal logic, and when a state satisfies one. Assumes nothing.
-use Rattle.std.specs.Prelude.{◌≡◌, ℕ, true, ◌⊎◌, List, [], ◌∷◌, ◌++◌, slice_index_or}
-use Rattle.stl.specs.Iff.{◌⇔◌}
+use Rattle.std.specs.Prelude.{◌≡◌, ℕ, true, ◌⊎◌, List, [], ◌∷◌, ◌++◌, slice_index_or, ◌↔◌}
 use Rattle.stl.specs.Structures.{Structure, Move}
 use Rattle.stl.specs.Runs.{Run, last}
 use Rattle.stl.specs.Until.{Until, AllButLast}
@@ -27,9 +26,9 @@ Holds k (until f g) s = Until k (Holds k f) (Holds k g) s
 -- two other ways to say until
 pub record UntilLaws : Type 0 where
   -- a run ends where g holds, and at all its states but the last f holds
-  pub by_run : (k : Structure) (f g : Formula) (s : ℕ) → Holds k (until f g) s ⇔ ((rest : List ℕ) × Run k s rest × Holds k g (last s rest) × AllButLast (Holds k f) s rest)
+  pub by_run : (k : Structure) (f g : Formula) (s : ℕ) → Holds k (until f g) s ↔ ((rest : List ℕ) × Run k s rest × Holds k g (last s rest) × AllButLast (Holds k f) s rest)
   -- g holds, or f holds and a move leads to a state where the until holds
-  pub by_step : (k : Structure) (f g : Formula) (s : ℕ) → Holds k (until f g) s ⇔ (Holds k g s ⊎ (Holds k f s × Holds k (next (until f g)) s))
+  pub by_step : (k : Structure) (f g : Formula) (s : ℕ) → Holds k (until f g) s ↔ (Holds k g s ⊎ (Holds k f s × Holds k (next (until f g)) s))
 
 -- the formula of a row, over those of the rows before it
 abbrev pub build : List Formula → Row → Formula

@@ -1,4 +1,3 @@
-pub mod Iff
 pub mod Structures
 pub mod Runs
 pub mod Until

@@ -4,8 +4,5 @@ use Rattle.look.proofs.Bits.{none_high}
 use Rattle.lengths.proofs.Words.{read_bit}
 use Rattle.lengths.proofs.labels.bit.Goals as goal
 
-pub returns-then-r-lt64 : goal.returns-then-r-lt64
-returns-then-r-lt64 c = read_bit c.args.word c.args.r
-
 pub returns-else-r-lt64 : goal.returns-else-r-lt64
 returns-else-r-lt64 c = le-ltb c.args.r 64 c.if-r-lt64.false ∙ sym (none_high 64 c.args.word c.args.r (omega arith) c.if-r-lt64.false)

@@ -4,9 +4,6 @@ use Rattle.stl.proofs.Shortest.{greatest_below}
 use Rattle.lengths.proofs.Filling.{running_none, running_more, running_small, running_filled, running_greatest}
 use Rattle.lengths.proofs.rounds.Until.lengths.Goals as goal
 
-pub loop-d-init : goal.loop-d-init
-loop-d-init g c = running_none c.first_round.ensures
-
 pub one_round-requires : goal.one_round-requires
 one_round-requires g c =
     let fits = g.M.Map.bounded c.args.self.now.map.now in
@@ -25,9 +22,6 @@ loop-d-smaller g c =
     let more = running_more c.loop-d.invariant c.loop-d-test.ensures in
     let d : c.loop-d.d + 1 ≤ (g.M.Map.meaning c.args.self.now.map.now).size = running_small (well_formed g.M.L.Look.sign _ fits) more in
     omega arith
-
-pub loop-d-preserved : goal.loop-d-preserved
-loop-d-preserved g c = running_more c.loop-d.invariant c.loop-d-test.ensures
 
 pub returns : goal.returns
 returns g c =

@@ -5,9 +5,6 @@ use Rattle.lengths.proofs.Sweeps.{sweep_none, sweep_on, sweep_give, swept_as}
 use Rattle.lengths.proofs.rounds.Until.one_round.Goals as goal
 use Rattle.lengths.proofs.rounds.Until.one_round.Goals.{then-due, else-due}
 
-pub loop-s-init : goal.loop-s-init
-loop-s-init g c = sweep_none c.requires.round
-
 pub loop-s-preserved : goal.loop-s-preserved
 loop-s-preserved g c =
     let size = (g.M.Map.meaning c.args.self.now.map.now).size in

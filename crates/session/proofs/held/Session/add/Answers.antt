@@ -3,12 +3,6 @@ use Rattle.calls.proofs.Given.{add_given}
 use Rattle.session.proofs.RowFacts.{row_added}
 use Rattle.session.proofs.held.Session.add.Goals as goal
 
-pub invariant_of-self : goal.invariant_of-self
-invariant_of-self g c =
-    let x = c.args.self.now in
-    let new = row_added x.rules c.add.new.self c.args.row c.in_ok-r.r (sym (c.in_ok-r.was) ∙ c.add.ensures.answer) c.add.ensures.rows in
-    record { within = omega (arith, x.within, new.longer) }
-
 pub returns : goal.returns
 returns g c =
     let x = c.args.self.now in

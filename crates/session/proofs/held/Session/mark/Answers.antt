@@ -6,22 +6,11 @@ use Rattle.stl.proofs.Rows.{reach_below}
 use Rattle.session.proofs.RowFacts.{rows_long, row_there, row_missing}
 use Rattle.session.proofs.held.Session.mark.Goals as goal
 
-pub returns-in_default : goal.returns-in_default
-returns-in_default g c =
-    let x = c.args.self.now in
-    record { gives = mark_refused (omega arith) (row_missing x.rules x.marked c.in_default.ensures); below = tt }
-
 pub mark_row-reach-requires : goal.mark_row-reach-requires
 mark_row-reach-requires g c =
     let x = c.args.self.now in
     let t = row_there x.rules x.marked c.in-Some.row c.in-Some.ensures in
     record { bit = omega (arith, t.below, t.few); words = omega (arith, (g.M.Map.bounded c.args.map.now).size_fits); earlier = t.names }
-
-pub invariant_of-self : goal.invariant_of-self
-invariant_of-self g c =
-    let x = c.args.self.now in
-    let t = row_there x.rules x.marked c.in-Some.row c.in-Some.ensures in
-    record { within = omega (arith, t.below, rows_long x.rules) }
 
 pub returns : goal.returns
 returns g c =
