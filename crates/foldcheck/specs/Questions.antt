@@ -1,5 +1,5 @@
 -- A question of a state that is asked for each move. Assumes nothing.
-use Rattle.std.specs.Prelude.{◌≡◌, ℕ, List}
+use Rattle.std.specs.Prelude.{◌≡◌, ℕ, Bool, List}
 use Rattle.map.specs.Meaning.{Meaning, structure}
 use Rattle.sharing.specs.Accepts.{class_of}
 use Rattle.stl.specs.Structures.{Move}

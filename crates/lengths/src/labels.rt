@@ -3,18 +3,13 @@ ghost use Rattle.std.specs.Prelude.{◌≡◌, ℕ, ◌<◌, if◌then◌else◌
 ghost use Rattle.look.specs.Bits.{bit_on};
 ghost use Rattle.lengths.specs.Sheets.{label_of};
 
-// Bit r of the word; from bit 64 on it is off.
-fn bit(word: u64, r: u32) -> bool
-    ensures { result ≡ bit_on word r }
-{
-    r < 64 && (word >> r) & 1 == 1
-}
+use look::word::is_on;
 
 // The label of row r at s: bit r of word s. Where there is no such bit or no such word, it is off.
 pub fn labelled(sheet: &[u64], r: u32, s: u32) -> bool
     ensures { result ≡ label_of sheet.now r s }
 {
-    sheet.get(s as usize).is_some_and(|word| bit(*word, r))
+    sheet.get(s as usize).is_some_and(|word| is_on(*word, r))
 }
 
 // The word with bit r set to b, and each other bit as it was.
@@ -22,7 +17,7 @@ pub fn with_bit(word: u64, r: u32, b: bool) -> u64
     requires { r < 64 }
     ensures { (j : ℕ) → bit_on result j ≡ (if nat_eq j r then b else bit_on word j) }
 {
-    if bit(word, r) == b {
+    if is_on(word, r) == b {
         word
     } else {
         word ^ (1 << r)

@@ -23,7 +23,8 @@ pub(crate) fn step_to<M: Map>(map: &M, s: u32, work: &[u32], d: u32) -> Option<u
     first_target(map, s, |t| work[t as usize] == d)
 }
 
-// Row a until row b on a map, by the labels in a sheet.
+// Row a until row b on a map, by the labels in a sheet. The work table stays beside it, with a line in each contract that it covers the
+// states: a struct that held it would have to promise in each method that it is still the same table.
 #[derive(Clone, Copy)]
 pub struct Until<'a, M> {
     pub map: &'a M,
@@ -44,7 +45,8 @@ impl<'a, M: Map> Until<'a, M> {
             && step_to(self.map, s, work, d).is_some()
     }
 
-    // Round 0: length 0 for the states with label b.
+    // Round 0: length 0 for the states with label b. Written by index: of what is written through `iter_mut`, a proof knows only the
+    // length.
     fn first_round(&self, work: &mut [u32])
         requires { (M.meaning self.now.map.now).size ≤ length work.old }
         ensures { Begun (structure M.L.Look.sign (M.meaning self.now.map.now)) (by_sheet self.now.sheet.now self.now.a) (by_sheet self.now.sheet.now self.now.b) (M.meaning self.now.map.now).size work.old work.new }
@@ -79,6 +81,7 @@ impl<'a, M: Map> Until<'a, M> {
         ensures below { 0 < (M.meaning self.now.map.now).size → result < (M.meaning self.now.map.now).size }
     {
         self.first_round(work);
+        // counted by hand: the number of rounds that gave a length is the answer
         let mut d = 0;
         while self.one_round(d, work) {
             d += 1;

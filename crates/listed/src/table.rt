@@ -7,7 +7,7 @@ use crate::fault::ListedFault;
 use crate::judge::table_fault;
 use map::made::Made;
 
-// A map over lent tables. Tables that make no map are kept too: such a map has size 0, and tells its fault.
+// A map over lent tables, which stay apart, as the supplier wrote them. Tables that make no map are kept too: such a map has size 0, and tells its fault.
 #[derive(Drop)]
 pub struct ListedMap<'a, L> {
     pub(crate) looks: &'a [L],

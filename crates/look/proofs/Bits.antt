@@ -1,9 +1,9 @@
 -- The bits of a word, and the word of its bits. Assumes nothing.
-use Rattle.std.proofs.Common.{◌≡◌, ℕ, zero, suc, ◌+◌, ◌-◌, ◌/◌, ◌%◌, ◌^◌, ◌<◌, ◌≤◌, Bool, true, false, cond, not, ◌&&◌, ◌||◌, eqb, ◌⊎◌, sym, refl, ap, ◌∙◌, subst, inl, inr, ⊎_elim, mod-eq_of_lt, div-one, arith, pow_mono}
+use Rattle.std.proofs.Common.{◌≡◌, ℕ, zero, suc, ◌+◌, ◌-◌, ◌/◌, ◌%◌, ◌^◌, ◌<◌, ◌≤◌, Bool, true, false, cond, not, ◌&&◌, ◌||◌, eqb, ltb, ◌⊎◌, sym, refl, ap, ◌∙◌, subst, inl, inr, ⊎_elim, mod-eq_of_lt, div-one, arith, pow_mono}
 use native.Mathlib.Nat.{zero-div, div-eq_of_lt, div-div-eq-div-mul, pow-succ'}
 use lib.Bits.{bit_and, bit_or, bit_xor, xor_add_and}
 use Rattle.std.proofs.lemmas.Nat.{and_mask, and_shr, and_mod, or_shr, or_mod, xor_shr, xor_mod, mod_below, pow_pos}
-use Rattle.std.proofs.lemmas.Bool.{cases_lt, eqb-true, eqb-false, cond-true}
+use Rattle.std.proofs.lemmas.Bool.{cases_lt, lt-ltb, le-ltb, eqb-true, eqb-false, cond-true}
 use Rattle.look.specs.Bits.{bit_on}
 
 -- bit j of a word
@@ -85,3 +85,11 @@ none_of_zero j = ap (λ n. eqb (n % 2) 1) (zero-div (2 ^ j))
 -- no bit from n on is on below 2 to the n
 pub none_high : (n word j : ℕ) → word < 2 ^ n → n ≤ j → bit_on word j ≡ false
 none_high n word j h l = ap (λ q. eqb (q % 2) 1) (div-eq_of_lt (omega (arith, pow_mono {i = n} {j = j} l)))
+
+-- a word below 2 ^ n has its bits below n
+pub bit_within : (n word j : ℕ) → word < 2 ^ n → bit_on word j ≡ (ltb j n && bit_on word j)
+bit_within n word j h =
+    ⊎_elim
+    (λ l. sym (ap (λ b. b && bit_on word j) (lt-ltb j n l)))
+    (λ l. none_high n word j h l ∙ sym (ap (λ b. b && bit_on word j) (le-ltb j n l)))
+    (cases_lt j n)

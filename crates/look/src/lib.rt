@@ -6,6 +6,7 @@ ghost use Rattle.std.specs.Prelude.{◌≡◌, ℕ, Bool, true};
 pub mod joint;
 pub mod level;
 pub mod switch;
+pub mod word;
 
 // A kind of look. Sameness is an equivalence, and looks that are the same agree on every sign.
 pub trait Look: Copy {

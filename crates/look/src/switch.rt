@@ -4,6 +4,7 @@ ghost use Rattle.look.specs.Switch.{switch_sign, switch_same};
 ghost use Rattle.std.proofs.Common.{rules};
 
 use crate::Look;
+use crate::word::is_on;
 
 // Bit k of `marks` is mark k.
 #[derive(Clone, Copy)]
@@ -25,11 +26,7 @@ impl Look for SwitchLook {
     ghost agree = { Prim.search rules };
 
     fn shows(&self, k: u16) -> bool {
-        if k < 32 {
-            (self.marks >> k) & 1 == 1
-        } else {
-            false
-        }
+        is_on(u64::from(self.marks), u32::from(k))
     }
 
     fn same_as(&self, other: &Self) -> bool {

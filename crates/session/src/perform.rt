@@ -10,7 +10,7 @@ use look::Look;
 use map::Map;
 
 impl Session {
-    // Makes the call, and gives its answer.
+    // Makes the call, and gives its answer. The map and the tables are lent to each call one by one, so that a caller may lend others.
     fn make<M: Map>(
         &mut self,
         map: &M,

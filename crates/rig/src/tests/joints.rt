@@ -47,6 +47,7 @@ fn entries_as_paired<A: Map, B: Map, J: Map>(
     b: u32,
     s: u32,
 ) {
+    // counted by hand, as are the pairs below: that they are numbered in this order is what is tried
     let mut k: u32 = 0;
     for i in 0..left.list_len(a) {
         for j in 0..right.list_len(b) {

@@ -1,7 +1,7 @@
 use Rattle.std.proofs.Common.{◌+◌, ◌≤◌, arith}
 use Rattle.map.proofs.Moves.{well_formed}
 use Rattle.stl.proofs.Shortest.{greatest_below}
-use Rattle.lengths.proofs.Filling.{running_none, running_more, running_small, running_filled, running_greatest}
+use Rattle.lengths.proofs.Filling.{running_more, running_small, running_filled, running_greatest}
 use Rattle.lengths.proofs.rounds.Until.lengths.Goals as goal
 
 pub one_round-requires : goal.one_round-requires

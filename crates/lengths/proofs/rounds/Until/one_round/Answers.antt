@@ -1,7 +1,7 @@
 use Rattle.std.proofs.Common.{◌+◌, ◌<◌, ◌≤◌, length, arith}
 use Rattle.std.proofs.lemmas.Bool.{both_ways}
 use Rattle.map.proofs.Moves.{well_formed}
-use Rattle.lengths.proofs.Sweeps.{sweep_none, sweep_on, sweep_give, swept_as}
+use Rattle.lengths.proofs.Sweeps.{sweep_on, sweep_give, swept_as}
 use Rattle.lengths.proofs.rounds.Until.one_round.Goals as goal
 use Rattle.lengths.proofs.rounds.Until.one_round.Goals.{then-due, else-due}
 

@@ -1,0 +1,10 @@
+// The bits of a word.
+ghost use Rattle.std.specs.Prelude.{◌≡◌};
+ghost use Rattle.look.specs.Bits.{bit_on};
+
+// Whether bit j of the word is on; from bit 64 on it is off.
+pub fn is_on(word: u64, j: u32) -> bool
+    ensures { result ≡ bit_on word j }
+{
+    j < 64 && (word >> j) & 1 == 1
+}
