@@ -39,7 +39,7 @@ impl<'a, M: Map> Side<'a, M> {
 }
 
 // What the two sessions answered.
-#[derive(Clone, Copy)]
+#[derive(Clone, Copy, PartialEq, Eq, Debug)]
 pub struct Pair {
     pub full: Answer,
     pub folded: Answer,
