@@ -7,10 +7,7 @@ use std::io::Write;
 
 // What a file holds; one that cannot be read is empty.
 fn bytes_of(rt: &HostRuntime, path: &str) -> Vec<u8> {
-    match fs::read(rt, path) {
-        Ok(bytes) => bytes,
-        Err(_) => Vec::new(rt.alloc()),
-    }
+    fs::read(rt, path).unwrap_or_else(|_| Vec::new(rt.alloc()))
 }
 
 fn main(rt: HostRuntime) {

@@ -1,5 +1,5 @@
 -- What a report says is what the logic says. Assumes nothing.
-use Rattle.std.proofs.Common.{◌≡◌, ℕ, ◌<◌, ◌≤◌, leb, List, ◌++◌, length, get_or, drop, Ok, Err, Result, sym, refl, ap, ◌∙◌, subst, ⊎_elim, arith}
+use Rattle.std.proofs.Common.{◌≡◌, ℕ, ◌<◌, leb, List, ◌++◌, length, get_or, drop, Ok, Err, Result, sym, refl, ap, ◌∙◌, subst, ⊎_elim, arith}
 use Rattle.std.proofs.lemmas.Bool.{cond-true, cond-false, cases_Bool, le-leb}
 use Rattle.calls.proofs.Carried.{then}
 use Rattle.calls.proofs.Itself.{same, itself}
@@ -8,7 +8,7 @@ use Rattle.calls.specs.Answers.{State}
 use Rattle.calls.specs.Histories.{Kept}
 use Rattle.lengths.specs.Sheets.{by_sheet}
 use Rattle.map.proofs.Asked.{passes}
-use Rattle.report.specs.Reports.{Reported, Given, questions, Decided, Reports, Fits}
+use Rattle.report.specs.Reports.{Reported, Given, questions, Decided, Reports}
 use Rattle.report.specs.Results.{Right, nothing}
 use Rattle.report.specs.Texts.{report_text}
 use Rattle.report.specs.declared.fault.ReportFault.{ReportFault}
@@ -50,13 +50,6 @@ fronted text before after n p = ⊎_elim
     (λ f. let e = p.answer ∙ cond-false (leb (length text) (length before)) (Ok (length text)) (Err NoRoom) f in grind arith)
     (cases_Bool (leb (length text) (length before)))
 
--- a report that is not given is not given for want of room
-no_room : (text before after : List ℕ) (fault : ReportFault) → Reported text before after (Err fault) → ◌≡◌ {A = Result ℕ ReportFault} (Err fault) (Err NoRoom)
-no_room text before after fault p = ⊎_elim
-    (λ t. let e = p.answer ∙ cond-true (leb (length text) (length before)) (Ok (length text)) (Err NoRoom) t in grind arith)
-    (λ f. p.answer ∙ cond-false (leb (length text) (length before)) (Ok (length text)) (Err NoRoom) f)
-    (cases_Bool (leb (length text) (length before)))
-
 module _ (k : Structure) (well : WellFormed k) (rows : List Row) (st : State) (sheet before after : List ℕ) (all : AllMarked k rows st sheet) where
   given : (x : Result ℕ ReportFault) → Reports k st sheet before after x → Given k st sheet before after x
   given x p = subst (Decided k st sheet before after x) (passes (questions k (length sheet)) (le-leb _ _ all.kept.fits, tt)) p
@@ -77,7 +70,3 @@ module _ (k : Structure) (well : WellFormed k) (rows : List Row) (st : State) (s
         });
         front = fronted (report_text w.finds) before after n w.reported;
       }
-
-  -- where there is room, there is a report
-  pub always_told : {P : Type 0} (fault : ReportFault) → 1024 ≤ length before → Reports k st sheet before after (Err fault) → Fits before (Err fault) → P
-  always_told fault h p fits = let w = given (Err fault) p in absurd (fits h (no_room (report_text w.finds) before after fault w.reported))

@@ -1,6 +1,6 @@
 -- What is written of a map and a rule text, by what was read. Assumes nothing.
-use Rattle.std.proofs.Common.{◌≡◌, ℕ, ◌<◌, ◌≤◌, List, length, Some, None, Ok, Err, Option, Result, sym, refl, ap, ◌∙◌, subst, arith}
-use Rattle.std.proofs.lemmas.Bool.{ne_eqb, ltb-true, le-leb}
+use Rattle.std.proofs.Common.{◌≡◌, ℕ, ◌<◌, List, length, Some, None, Ok, Err, Option, Result, sym, refl, ap, ◌∙◌, subst, arith}
+use Rattle.std.proofs.lemmas.Bool.{ne_eqb, ltb-true}
 use Rattle.calls.specs.Answers.{State}
 use Rattle.calls.specs.Opening.{fresh, open_questions, OpenDecided, Opens}
 use Rattle.calls.specs.declared.fault.SessionFault.{SessionFault}
@@ -16,7 +16,7 @@ use Rattle.ruletext.specs.RuleTexts.{rule_answer, rule_read}
 use Rattle.stl.specs.Structures.{Structure}
 use Rattle.checking.specs.Told.{line_of, Told}
 use Rattle.checking.specs.declared.fault.FaultLine.{FaultLine}
-use Rattle.checking.specs.Outputs.{fault_text, ReportByLogic, AfterRules, AfterMap, OfMap, blank, structure_read, AfterMapText, Output, Wrote, CheckDecided, Checks}
+use Rattle.checking.specs.Outputs.{fault_text, ReportByLogic, AfterRules, AfterMap, OfMap, blank, structure_read, AfterMapText, Output, Wrote}
 
 -- a session that was opened is fresh, on a map with a state
 pub opened : (k : Structure) (before after : List ℕ) (st : State) → Opens k before (Ok st) after → (st ≡ fresh) × (0 < k.size)
@@ -65,13 +65,5 @@ pub told : {P Q : List ℕ → Type 0} (before after : List ℕ) (r : Result ℕ
 told before after (Ok n) f w = wrote f w
 told before after (Err line) f w = (f (line_of line) w.0, w.1)
 
--- what is written of a map text, by what its reading answered
-pub read_fault : (map rules : List ℕ) (fault : TextFault) → Err fault ≡ (map_read map blank).answer → Output map rules (fault_text 77 fault)
-read_fault map rules fault e = subst (λ a. AfterMapText a (map_read map blank).held rules (fault_text 77 fault)) e refl
-
 pub read_well : (map rules : List ℕ) (size : MapSize) (t : Tables SwitchLook) → Ok size ≡ (map_read map blank).answer → t ≡ (map_read map blank).held → (bytes : List ℕ) → OfMap (structure_read size t) rules bytes → Output map rules bytes
 read_well map rules size t e f bytes p = subst (λ a. AfterMapText a (map_read map blank).held rules bytes) e (subst (λ u. AfterMapText (Ok size) u rules bytes) f p)
-
--- a buffer with room
-pub roomy : (map rules before after : List ℕ) (n : ℕ) → 1024 ≤ length before → Wrote (Output map rules) before after n → Checks map rules before after (Ok n)
-roomy map rules before after n h w = subst (λ b. CheckDecided b map rules before after (Ok n)) (sym (le-leb _ _ h)) (n, refl, w)

@@ -1,10 +1,8 @@
 -- The map that was read. Assumes nothing.
-use Rattle.std.proofs.Common.{◌≡◌, ℕ, ◌+◌, ◌≤◌, List, length, take, None, Option, ap, ◌∙◌, arith}
-use Rattle.std.proofs.lemmas.List.{length-take}
+use Rattle.std.proofs.Common.{◌≡◌, ℕ, ◌+◌, List, take, None, Option, ap, ◌∙◌}
 use Rattle.listed.specs.Tables.{Tables, tables, listed}
 use Rattle.listed.specs.declared.fault.ListedFault.{ListedFault}
 use Rattle.look.specs.declared.switch.SwitchLook.{SwitchLook}
-use Rattle.map.specs.Meaning.{Meaning}
 use Rattle.maptext.specs.MapTexts.{part}
 use Rattle.maptext.specs.declared.progress.MapSize.{MapSize}
 
@@ -18,7 +16,3 @@ read_as n t fault looks starts firsts targets e a b c d =
     ∙ ap (λ xs. listed None (tables (take n.states t.looks) xs firsts targets)) b
     ∙ ap (λ xs. listed None (tables (take n.states t.looks) (take n.states t.starts) xs targets)) c
     ∙ ap (λ xs. listed None (tables (take n.states t.looks) (take n.states t.starts) (take (n.states + 1) t.firsts) xs)) d
-
--- it has no more states than the table has looks
-pub few_states : (n : MapSize) (t : Tables SwitchLook) (m : Meaning SwitchLook) → m ≡ listed None (part n t) → length t.looks ≤ 1024 → m.size ≤ 1024
-few_states n t m e h = omega (arith, ap (λ (x : Meaning SwitchLook). x.size) e, length-take n.states t.looks)

@@ -46,10 +46,6 @@ none_ended text e = by (after 10 text) refl e
     by None a f = last_lines text a
     by (Some r) a f = grind arith
 
-pub ended_none : (text : List ℕ) → length text ≡ 0 → text_lines text ≡ []
-ended_none [] e = refl
-ended_none (b ∷ bs) e = absurd (omega arith)
-
 pub ended_some : (text : List ℕ) → (length text ≡ 0 → ⊥) → unended text ≡ Err NotOfAForm ∷ []
 ended_some [] ne = absurd (ne refl)
 ended_some (b ∷ bs) ne = refl

@@ -1,6 +1,6 @@
 -- What a session says of a marked row. Assumes nothing.
 use Rattle.std.specs.Prelude.{◌↔◌}
-use Rattle.std.proofs.Common.{◌≡◌, ℕ, ◌<◌, ◌≤◌, Bool, true, List, length, Ok, Err, Result, refl, subst}
+use Rattle.std.proofs.Common.{◌≡◌, ℕ, ◌<◌, ◌≤◌, Bool, true, List, length, Ok, Result, subst}
 use Rattle.std.proofs.lemmas.Bool.{lt-ltb, le-leb}
 use Rattle.calls.specs.Answers.{State, questions, Grants, verdict, Decided}
 use Rattle.calls.specs.Effects.{alone, lent, Gives}
@@ -37,11 +37,6 @@ module _ (k : Structure) (st : State) (sheet : List ℕ) (r : ℕ) (h : k.size �
   pub judged : (x : Result Bool SessionFault) {after : State} → Gives k st (alone sheet) (call.Verdict r) (answered answer.Verdict x) after (alone sheet) → Says (answered answer.Verdict x)
   judged x {after = after} g = says (subst (Decided k (by_sheet sheet) st (lent (alone sheet)) (call.Verdict r) (answered answer.Verdict x) after) (passes (questions k st (lent (alone sheet)) (call.Verdict r)) (le-leb _ _ h, (lt-ltb _ _ i, tt))) g.answers)
 
-  -- no verdict is refused
-  pub no_verdict : (x : Result Bool SessionFault) {after : State} → Gives k st (alone sheet) (call.Verdict r) (answered answer.Verdict x) after (alone sheet) → ((b : Bool) → x ≡ Ok b → ⊥) → ⊥
-  no_verdict (Ok b) g none = none b refl
-  no_verdict (Err f) g none = judged (Err f) g
-
   -- both answers are those of row r
   pub found : (b : Bool) (n : ℕ) {after : State} → Gives k st (alone sheet) (call.Verdict r) (answer.Verdict b) after (alone sheet) → ReachAnswers k st sheet r (Ok n) → Right k st.rows sheet r (record { yes = b; reach = n })
   found b n g e =
@@ -53,3 +48,9 @@ module _ (k : Structure) (st : State) (sheet : List ℕ) (r : ℕ) (h : k.size �
         reach = subst (Reach k (by_sheet sheet) (row_at st.rows r)) same x.right;
         below = subst (λ m. 0 < k.size → m < k.size) same x.below;
       }
+
+  -- the same of calls that were not refused
+  pub found_in : {x : Result Bool SessionFault} {y : Result ℕ SessionFault} {after : State} (b : Bool) (n : ℕ) → x ≡ Ok b → y ≡ Ok n →
+      Gives k st (alone sheet) (call.Verdict r) (answered answer.Verdict x) after (alone sheet) → ReachAnswers k st sheet r y → Right k st.rows sheet r (record { yes = b; reach = n })
+  found_in {after = after} b n p q g e =
+      found b n (subst (λ z. Gives k st (alone sheet) (call.Verdict r) (answered answer.Verdict z) after (alone sheet)) p g) (subst (ReachAnswers k st sheet r) q e)

@@ -46,10 +46,3 @@ all_states m (suc n) = ap (λ t. t ++ state_at m n) (all_states m n) ∙ sym (te
 
 pub there : {X : Type 0} (xs : List X) (k : ℕ) (d x : X) (o : Option X) → k < length xs → o ≡ slice_get xs k → o ≡ Some x → x ≡ get_or xs k d
 there xs k d x o h e s = let n = slice_get-get_or xs k d h in cc
-
-pub not_missing : {X : Type 0} (xs : List X) (k : ℕ) (d : X) (o : Option X) → k < length xs → o ≡ slice_get xs k → o ≡ None → ⊥
-not_missing xs k d o h e s = let n = slice_get-get_or xs k d h in grind arith
-
--- nothing is said of no answer
-pub none_answered : {X : Type 0} {o : Option X} (P : Type 0) → o ≡ None → IfSome o (λ _. P)
-none_answered {X} P e = subst (λ (r : Option X). IfSome r (λ _. P)) (sym e) tt

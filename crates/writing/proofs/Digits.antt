@@ -47,6 +47,3 @@ module _ (n : ℕ) (digits : List ℕ) (first rest : ℕ) (h : 0 < rest) (f : Fi
             ∙ ap (λ x. x ++ drop first digits) (sym (bytes_step rest h))
             ∙ f.filled;
       }
-
-pub filling_all : (n : ℕ) (digits : List ℕ) (first rest : ℕ) → rest ≡ 0 → Filling n digits first rest → drop first digits ≡ written n
-filling_all n digits first rest e f = ap (λ k. digit_bytes k ++ drop first digits) (sym e) ∙ f.filled

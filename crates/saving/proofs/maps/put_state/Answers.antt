@@ -6,13 +6,6 @@ use Rattle.saving.specs.Texts.{ended, marks_of, start_of}
 use Rattle.saving.proofs.Lines.{text_more}
 use Rattle.saving.proofs.maps.put_state.Goals as goal
 
-pub returns-in_err-put_into-clause-put : goal.returns-in_err-put_into-clause-put
-returns-in_err-put_into-clause-put g c =
-    let m = g.M.Map.meaning c.args.map.now in
-    let targets = map Target (m.list c.args.s) in
-    put_same (text_more (State (marks_of (m.look c.args.s)) (start_of (m.start c.args.s))) targets)
-    (put_stop g.met.S.Sink.laws (written_text targets) (put_same (ap ended c.state_line.ensures.is) c.in_err-put_into.ensures.put) c.from_residual.ensures.0)
-
 pub returns-clause-put : goal.returns-clause-put
 returns-clause-put g c =
     let m = g.M.Map.meaning c.args.map.now in

@@ -5,16 +5,10 @@ use Rattle.saving.proofs.Lines.{line_at, all_lines}
 use Rattle.saving.proofs.Pieces.{pieces, put_more, put_short}
 use Rattle.saving.proofs.maps.put_targets.Goals as goal
 
-pub loop-k-init : goal.loop-k-init
-loop-k-init g c = put_nothing g.met.S.Sink.laws _
-
 pub returns-in_err-put_target : goal.returns-in_err-put_target
 returns-in_err-put_target g c =
     let list = (g.M.Map.meaning c.args.map.now).list c.args.s in
     put_same (all_lines Target 0 list) (put_short g.met.S.Sink.laws (line_at Target 0 list) c.loop-k.k (length list) (omega arith) c.loop-k.invariant c.in_err-put_target.ensures c.from_residual.ensures.0)
-
-pub loop-k-preserved : goal.loop-k-preserved
-loop-k-preserved g c = put_more g.met.S.Sink.laws (line_at Target 0 ((g.M.Map.meaning c.args.map.now).list c.args.s)) c.loop-k.k c.loop-k.invariant c.in_ok-put_target.ensures
 
 pub returns : goal.returns
 returns g c =

@@ -3,9 +3,6 @@ use Rattle.writing.proofs.Fields.{fields_from, one_field, no_field}
 use Rattle.writing.proofs.Joins.{put_same, put_then, put_stop}
 use Rattle.writing.proofs.line.put_fields.Goals as goal
 
-pub loop-n-init : goal.loop-n-init
-loop-n-init g c = λ r u p. put_then g.met.S.Sink.laws c.in_ok-put.ensures.put p
-
 pub loop-n-preserved : goal.loop-n-preserved
 loop-n-preserved g c = λ r u p. c.loop-n.invariant r u (put_same (one_field (10 ∷ []) c.args.numbers.now c.loop-n.n-index c.loop-n-test.true) (put_then g.met.S.Sink.laws c.in_ok-put_field.ensures p))
 

@@ -1,12 +1,8 @@
-use Rattle.std.proofs.Common.{◌+◌, drop, ap, arith}
-use Rattle.std.proofs.lemmas.List.{take_all}
-use Rattle.writing.proofs.Joins.{put_same, put_then, put_stop, put_nothing}
-use Rattle.report.specs.Texts.{report_from, report_text}
+use Rattle.std.proofs.Common.{◌+◌, drop, arith}
+use Rattle.writing.proofs.Joins.{put_same, put_then, put_stop}
+use Rattle.report.specs.Texts.{report_from}
 use Rattle.report.proofs.Putting.{text_more, text_rest}
 use Rattle.report.proofs.lines.ReportText.put_into.Goals as goal
-
-pub loop-r-init : goal.loop-r-init
-loop-r-init g c = put_nothing g.met.S.Sink.laws _
 
 pub loop-r-preserved : goal.loop-r-preserved
 loop-r-preserved g c = put_same (text_more c.args.self.now.finds.now c.loop-r.r (omega arith)) (put_then g.met.S.Sink.laws c.loop-r.invariant c.in_ok-put_found.ensures)
@@ -17,6 +13,3 @@ returns-in_err-put_found-clause-put g c =
     let r = c.loop-r.r in
     put_same (text_rest finds r (omega arith))
     (put_then g.met.S.Sink.laws c.loop-r.invariant (put_stop g.met.S.Sink.laws (report_from (r + 1) (drop (r + 1) finds)) c.in_err-put_found.ensures c.from_residual.ensures.0))
-
-pub returns-clause-put : goal.returns-clause-put
-returns-clause-put g c = put_same (ap report_text (take_all c.loop-r.r c.args.self.now.finds.now (omega arith))) c.loop-r.invariant

@@ -6,12 +6,6 @@ use Rattle.saving.specs.Texts.{ended, first_states}
 use Rattle.saving.proofs.Lines.{text_more}
 use Rattle.saving.proofs.maps.MapTextText.put_into.Goals as goal
 
-pub returns-in_err-put_into-clause-put : goal.returns-in_err-put_into-clause-put
-returns-in_err-put_into-clause-put g c =
-    let m = g.M.Map.meaning c.args.self.now.0.now in
-    put_same (text_more (Map m.size) (first_states m m.size))
-    (put_stop g.met.S.Sink.laws (written_text (first_states m m.size)) (put_same (ap (λ n. ended (Map n)) c.size.ensures) c.in_err-put_into.ensures.put) c.from_residual.ensures.0)
-
 pub returns-clause-put : goal.returns-clause-put
 returns-clause-put g c =
     let m = g.M.Map.meaning c.args.self.now.0.now in

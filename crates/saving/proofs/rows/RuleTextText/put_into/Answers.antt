@@ -6,17 +6,11 @@ use Rattle.saving.proofs.Lines.{line_at, all_lines}
 use Rattle.saving.proofs.Pieces.{pieces, put_more, put_short}
 use Rattle.saving.proofs.rows.RuleTextText.put_into.Goals as goal
 
-pub loop-r-init : goal.loop-r-init
-loop-r-init g c = put_nothing g.met.S.Sink.laws _
-
 pub returns-in_err-put_row-clause-put : goal.returns-in_err-put_row-clause-put
 returns-in_err-put_row-clause-put g c =
     let list = c.args.self.now.0.now in
     let rows = take list.len list.rows in
     put_same (all_lines Rule True rows) (put_short g.met.S.Sink.laws (line_at Rule True rows) c.loop-r.r (length rows) (omega arith) c.loop-r.invariant c.in_err-put_row.ensures c.from_residual.ensures.0)
-
-pub loop-r-preserved : goal.loop-r-preserved
-loop-r-preserved g c = let list = c.args.self.now.0.now in put_more g.met.S.Sink.laws (line_at Rule True (take list.len list.rows)) c.loop-r.r c.loop-r.invariant c.in_ok-put_row.ensures
 
 pub returns-clause-put : goal.returns-clause-put
 returns-clause-put g c =
