@@ -24,7 +24,7 @@ PATTERNS = [
     (3, "a loop that is no `for`", r"^\s*(while|loop)\b"),
     (3, "a count kept by hand", r"(\+= 1;|-= 1;|= \w+\.saturating_add\(1\);)"),
     (4, "equality, texts or conversion written by hand", r"fn (same|say\w*|reason|is_word|written|is_digit|plain|hex)[<(]|let why = match"),
-    (6, "an array whose first entries count", r"(rows: \[Row; 64\]|finds = \[|digits = \[|(looks|starts|firsts|targets|commands|out|facts|best|asked): \[|let mut (out|best|facts|asked|looks|starts|firsts|targets|commands) = \[)"),
+    (6, "an array with a count beside it, or one that is filled entry by entry", r"(rows: \[Row; 64\],|finds = \[|looks: \[SwitchLook; 6\]|starts: \[u8; 6\]|firsts: \[u32; 7\]|targets: \[u32; 18\]|commands: \[Command; 4\]|let mut (out|best|facts|asked|looks|starts|firsts|targets|commands) = \[)"),
     (6, "a slice of known length walked by its split parts", r"let Some\(now\) = rest else"),
     (7, "an enum that says which step to run", r"enum (Question|Pen)\b"),
 ]
@@ -59,7 +59,10 @@ def long_lists():
     found = []
     for name, text in texts.items():
         for m in re.finditer(r"fn (\w+)(?:<[^()]*?>)?\(([^)]*)\)", text):
-            count = len([p for p in m.group(2).split(",") if p.strip()])
+            flat = m.group(2)
+            while re.search(r"<[^<>]*>", flat):
+                flat = re.sub(r"<[^<>]*>", "", flat)
+            count = len([p for p in flat.split(",") if p.strip()])
             if count >= 6:
                 found.append(f"{name[len(root) + 1:]}: {m.group(1)}, {count}")
     return found
