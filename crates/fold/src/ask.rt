@@ -19,7 +19,8 @@ pub(crate) fn class_or_none(fold: &Accepted<'_>, s: u32) -> u32
     fold.class(s).unwrap_or(u32::MAX)
 }
 
-// The label of row r at state s of the full map: that of its class, by a session on the folded map.
+// The label of row r at state s of the full map: that of its class, by a session on the folded map. Map and sheet are lent one by one, as to
+// each call of a session.
 pub fn ask_through<G: Map>(
     fold: &Accepted<'_>,
     folded: &G,

@@ -52,7 +52,11 @@ impl<'a, M: Map> Until<'a, M> {
         ensures { Begun (structure M.L.Look.sign (M.meaning self.now.map.now)) (by_sheet self.now.sheet.now self.now.a) (by_sheet self.now.sheet.now self.now.b) (M.meaning self.now.map.now).size work.old work.new }
     {
         for s in 0..self.map.size() {
-            work[s as usize] = if labelled(self.sheet, self.b, s) { 0 } else { NONE };
+            work[s as usize] = if labelled(self.sheet, self.b, s) {
+                0
+            } else {
+                NONE
+            };
         }
     }
 

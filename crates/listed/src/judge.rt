@@ -27,7 +27,10 @@ fn wrong_first(firsts: &[u32], count: usize) -> Option<u32>
     requires { length firsts.now ≤ 4097 }
     ensures { result ≡ lowest_no (right_first firsts.now count) (length firsts.now) }
 {
-    lowest_no(firsts.len() as u32, |i| first_is_right(firsts, count, i as usize))
+    lowest_no(
+        firsts.len() as u32,
+        |i| first_is_right(firsts, count, i as usize),
+    )
 }
 
 // The lowest entry of the targets that is none of `size` states.
@@ -35,7 +38,10 @@ fn wrong_target(targets: &[u32], size: usize) -> Option<u32>
     requires { length targets.now ≤ 32768 }
     ensures { result ≡ lowest_no (right_target targets.now size) (length targets.now) }
 {
-    lowest_no(targets.len() as u32, |k| (targets[k as usize] as usize) < size)
+    lowest_no(
+        targets.len() as u32,
+        |k| (targets[k as usize] as usize) < size,
+    )
 }
 
 // What is wrong with the tables, if anything.

@@ -16,7 +16,7 @@ use thiserror::Error;
 pub enum Line {
     // the size of the map
     Map(u32),
-    // the look of a state, and 1 where it is a start
+    // the look of a state, and 1 where it is a start: a byte, as the tables have it
     State(u32, u8),
     // a target of the state before it
     Target(u32),

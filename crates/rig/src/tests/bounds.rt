@@ -40,7 +40,10 @@ fn tables_at_their_bounds(rt: HostRuntime) -> Result<(), Fail> {
     assert_eq!(rt; told_of_zeros(heap, 0, 0, 0, 0, 0)?, (0, None));
     assert_eq!(rt; told_of_zeros(heap, 1, 1, 1, 0, 0)?, (1, None));
     assert_eq!(rt; told_of_zeros(heap, 4096, 4096, 4096, 0, 0)?, (4096, None));
-    assert_eq!(rt; told_of_zeros(heap, 4097, 4097, 4097, 0, 0)?, (0, Some((1, None))));
+    assert_eq!(rt;
+        told_of_zeros(heap, 4097, 4097, 4097, 0, 0)?,
+        (0, Some((1, None)))
+    );
     assert_eq!(rt;
         told_of_zeros(heap, 4096, 4096, 4096, 32768, 32768)?,
         (4096, None)
@@ -49,7 +52,10 @@ fn tables_at_their_bounds(rt: HostRuntime) -> Result<(), Fail> {
         told_of_zeros(heap, 4096, 4096, 4096, 32769, 32769)?,
         (0, Some((3, Some(4096))))
     );
-    assert_eq!(rt; told_of_zeros(heap, 1, 1, 1, 32769, 32769)?, (0, Some((3, Some(1)))));
+    assert_eq!(rt;
+        told_of_zeros(heap, 1, 1, 1, 32769, 32769)?,
+        (0, Some((3, Some(1))))
+    );
     Ok(())
 }
 
@@ -63,7 +69,10 @@ fn tables_of_wrong_lengths(rt: HostRuntime) -> Result<(), Fail> {
     assert_eq!(rt; told_of_zeros(heap, 2, 2, 1, 0, 0)?, (0, Some((2, None))));
     assert_eq!(rt; told_of_zeros(heap, 2, 2, 3, 0, 0)?, (0, Some((2, None))));
     // the looks are counted first
-    assert_eq!(rt; told_of_zeros(heap, 4097, 0, 0, 0, 0)?, (0, Some((1, None))));
+    assert_eq!(rt;
+        told_of_zeros(heap, 4097, 0, 0, 0, 0)?,
+        (0, Some((1, None)))
+    );
     Ok(())
 }
 

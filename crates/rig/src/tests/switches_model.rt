@@ -183,7 +183,10 @@ fn switch_counts_and_command_counts(rt: HostRuntime) {
     assert_eq!(rt; told(panel(1, 0, 0, 0), &[]), (2, None));
     assert_eq!(rt; told(panel(12, 7, 0, 0), &[]), (4096, None));
     assert_eq!(rt; told(panel(13, 7, 0, 0), &[]), (0, Some((5, None))));
-    assert_eq!(rt; told(panel(u32::MAX, 7, 0, 0), &[IDLE; 33]), (0, Some((5, None))));
+    assert_eq!(rt;
+        told(panel(u32::MAX, 7, 0, 0), &[IDLE; 33]),
+        (0, Some((5, None)))
+    );
     assert_eq!(rt; told(panel(3, 7, 0, 0), &[IDLE; 32]), (8, None));
     assert_eq!(rt; told(panel(3, 7, 0, 0), &[IDLE; 33]), (0, Some((6, None))));
     // a command that needs a switch both on and off may stand
@@ -197,10 +200,25 @@ fn masks_at_fault(rt: HostRuntime) {
     assert_eq!(rt; told(panel(3, 8, 7, 7), &[]), (0, Some((7, None))));
     assert_eq!(rt; told(panel(3, 7, 8, 7), &[]), (0, Some((7, None))));
     assert_eq!(rt; told(panel(3, 7, 7, 8), &[]), (0, Some((7, None))));
-    assert_eq!(rt; told(right, &[IDLE, command(8, 0, 0, 0)]), (0, Some((7, None))));
-    assert_eq!(rt; told(right, &[IDLE, command(0, 8, 0, 0)]), (0, Some((7, None))));
-    assert_eq!(rt; told(right, &[IDLE, command(0, 0, 8, 0)]), (0, Some((7, None))));
-    assert_eq!(rt; told(right, &[IDLE, command(0, 0, 0, 8)]), (0, Some((7, None))));
-    assert_eq!(rt; told(right, &[IDLE, command(0, 0, 6, 2)]), (0, Some((7, None))));
+    assert_eq!(rt;
+        told(right, &[IDLE, command(8, 0, 0, 0)]),
+        (0, Some((7, None)))
+    );
+    assert_eq!(rt;
+        told(right, &[IDLE, command(0, 8, 0, 0)]),
+        (0, Some((7, None)))
+    );
+    assert_eq!(rt;
+        told(right, &[IDLE, command(0, 0, 8, 0)]),
+        (0, Some((7, None)))
+    );
+    assert_eq!(rt;
+        told(right, &[IDLE, command(0, 0, 0, 8)]),
+        (0, Some((7, None)))
+    );
+    assert_eq!(rt;
+        told(right, &[IDLE, command(0, 0, 6, 2)]),
+        (0, Some((7, None)))
+    );
     assert_eq!(rt; told(right, &[IDLE, command(0, 0, 5, 2)]), (8, None));
 }
