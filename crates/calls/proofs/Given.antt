@@ -51,9 +51,6 @@ module _ {k : Structure} {st : State} {t : Tables} where
       (passes (questions k st (lent t) (call.Verdict r)) (le-leb _ _ h, (lt-ltb _ _ j, tt)))
       (verdict r b e) refl
 
-  pub mark_refused : k.size ≤ length t.sheet → length st.rows ≤ st.marked → Gives k st t call.Mark (answer.Refused NothingToMark) st t
-  mark_refused h i = refused (stops (ask (leb k.size (length t.sheet)) ShortSheet ∷ []) (ltb st.marked (length st.rows)) NothingToMark [] (le-leb _ _ h, tt) (le-ltb _ _ i))
-
   pub mark_given : {row : Row} {n : ℕ} {sheet : List ℕ} → k.size ≤ length t.sheet → st.marked < length st.rows → row_at st.rows st.marked ≡ row → Labelled k t.sheet st.marked row k.size sheet → Reach k (by_sheet t.sheet) row n → Gives k st t call.Mark (answer.Marked st.marked n) (record { rows = st.rows; marked = st.marked + 1 }) (record { sheet = sheet; work = t.work; run = t.run })
   mark_given {n = n} {sheet = sheet} h i e p q =
       granted

@@ -6,7 +6,7 @@ use map::refusal::Refusal;
 use rules::fault::RuleFault;
 use thiserror::Error;
 
-// Each case is the no to one question.
+// Each case is the no to one question. Those of the rule list are here under the same names.
 #[derive(Clone, Copy, PartialEq, Eq, Debug, Error)]
 pub enum SessionFault {
     #[error("the map has no state")]

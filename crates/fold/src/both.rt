@@ -15,6 +15,7 @@ use foldcheck::accepted::Accepted;
 use look::Look;
 use map::Map;
 use session::held::Session;
+use thiserror::Error;
 
 // A session on its map, with the tables that are lent to its calls. A struct of the fold and both sides was tried too, but its caller
 // learns nothing of a reference that lies two structs deep.
@@ -96,7 +97,8 @@ fn play<F: Map, G: Map<L = F::L>>(
 }
 
 // There is no room for the answers.
-#[derive(Clone, Copy, PartialEq, Eq, Debug)]
+#[derive(Clone, Copy, PartialEq, Eq, Debug, Error)]
+#[error("there is no room for the answers")]
 pub struct ShortAnswers;
 
 // Makes each call in turn on both sessions, and writes both answers, in order; makes none where there is no room for the answers.

@@ -44,13 +44,13 @@ impl Refusal for FoldFault {
     fn carried(self) -> Option<u32> {
         match self {
             FoldFault::WrongLength => None,
-            FoldFault::NoClass(s) => Some(s),
-            FoldFault::OtherLook(s) => Some(s),
-            FoldFault::MoveLost(s) => Some(s),
-            FoldFault::MoveAdded(s) => Some(s),
-            FoldFault::StartLost(s) => Some(s),
-            FoldFault::StartAdded(d) => Some(d),
-            FoldFault::NotAClass(d) => Some(d),
+            FoldFault::NoClass(s)
+            | FoldFault::OtherLook(s)
+            | FoldFault::MoveLost(s)
+            | FoldFault::MoveAdded(s)
+            | FoldFault::StartLost(s)
+            | FoldFault::StartAdded(s)
+            | FoldFault::NotAClass(s) => Some(s),
         }
     }
 }

@@ -16,18 +16,6 @@ pub record Running (k : Structure) (A B : ℕ → Type 0) (d : ℕ) (before work
   pub met : 0 < d → (s : ℕ) × (s < k.size) × Length k A B s d
 
 module _ {k : Structure} {A B : ℕ → Type 0} where
-  -- round 0 at one state more
-  pub begun_more : {i w : ℕ} {before work : List ℕ} → Begun k A B i before work → i < length work → Known k A B 0 i w → Begun k A B (i + 1) before (set work i w)
-  begun_more {i = i} {w = w} {work = work} p h x =
-      record {
-        sized = length-set work i w ∙ p.sized;
-        done = λ s l. ⊎_elim
-            (λ e. subst (λ s. Known k A B 0 s (get_or (set work i w) s 0)) (sym e) (subst (Known k A B 0 i) (sym (get_or-set_same work i w 0 h)) x))
-            (λ ne. subst (Known k A B 0 s) (sym (get_or-set_other work i s w 0 ne)) (p.done s (omega arith)))
-            (cases_eq s i);
-        past = λ s l. get_or-set_other work i s w 0 (λ e. omega arith) ∙ p.past s (omega arith);
-      }
-
   -- after a round that gives nothing each state that has a run has its length
   module _ (formed : WellFormed k) {d : ℕ} {before work : List ℕ} (sweep : Swept k A B d k.size before work false) where
     -- nothing got the length d + 1
@@ -63,10 +51,6 @@ module _ {k : Structure} {A B : ℕ → Type 0} where
       above = λ s m h x. let l = has_length s x.0 h x.1.reaches in omega (arith, l.1, one_length k A B s l.0 m l.2 x);
       met = met;
     }
-
-  -- round 0 is done
-  pub running_none : {before work : List ℕ} → Begun k A B k.size before work → Running k A B 0 work work
-  running_none p = record { round = λ s h. p.done s h; sized = refl; past = λ s h. refl; met = λ h. absurd (omega arith) }
 
   -- one round more
   pub running_more : {d : ℕ} {before work next : List ℕ} → Running k A B d before work → Swept k A B d k.size work next true → Running k A B (d + 1) before next

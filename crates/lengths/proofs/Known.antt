@@ -17,19 +17,6 @@ module _ {k : Structure} {A B : ℕ → Type 0} where
   length_known d e s w h (inl x) l = one_length k A B s w d x.1 l
   length_known d e s w h (inr x) l = absurd (omega (arith, l.2, x.1 l.0 l.1.reaches))
 
-  -- round 0 at a state in B
-  pub round_zero_on : (s : ℕ) → B s → Known k A B 0 s 0
-  round_zero_on s b = inl (omega arith, length_zero k A B s b)
-
-  -- a run from a state that is not in B has a move
-  zero_off : (s : ℕ) → (B s → ⊥) → (rest : List ℕ) → Reaches k A B s rest → 0 < length rest
-  zero_off s n [] r = absurd (n r.ends)
-  zero_off s n (t ∷ rest) r = omega arith
-
-  -- and at one that is not
-  pub round_zero_off : (s : ℕ) → (B s → ⊥) → Known k A B 0 s 4294967295
-  round_zero_off s n = inr (refl, zero_off s n)
-
   -- a state that has no length yet, in A, with a move to a state of length d
   pub next_length : (d s t : ℕ) → ((rest : List ℕ) → Reaches k A B s rest → d < length rest) → A s → Move k s t → Length k A B t d → Length k A B s (d + 1)
   next_length d s t longer a m l = (

@@ -79,17 +79,6 @@ module _ {k : Structure} {A B : ℕ → Type 0} where
           none = λ f. absurd (true≢false f);
         }
 
-  -- a sweep begins
-  pub sweep_none : {d : ℕ} {work : List ℕ} → Round k A B d work → Swept k A B d 0 work work false
-  sweep_none r = record {
-    sized = refl;
-    done = λ s l b. absurd (omega arith);
-    todo = λ s l b. r s b;
-    past = λ s l. refl;
-    some = λ f. absurd (false≢true f);
-    none = λ f s l. absurd (omega arith);
-  }
-
   -- where two ways meet, the values have new names
   pub swept_as : {d i : ℕ} {before x y : List ℕ} {f h : Bool} → x ≡ y → f ≡ h → Swept k A B d i before y h → Swept k A B d i before x f
   swept_as {d = d} {i = i} {before = before} e q p = subst (λ T. T) (sym (λ j. Swept k A B d i before (e j) (q j))) p

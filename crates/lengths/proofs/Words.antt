@@ -10,10 +10,6 @@ use Rattle.std.proofs.lemmas.Bool.{eq-eqb, ne_eqb, cond-true, cond-false, cases_
 use Rattle.look.specs.Bits.{bit_on}
 use Rattle.look.proofs.Bits.{bit_on-xor, half, lowest, none_of_zero}
 
--- a bit as it is read
-pub read_bit : (w r : ℕ) → eqb (bit_and (w / 2 ^ r) 1) 1 ≡ bit_on w r
-read_bit w r = ap (λ n. eqb n 1) (and_mask (w / 2 ^ r) 1)
-
 -- 2 to the r has bit r alone
 one_bit : (r j : ℕ) → bit_on (2 ^ r) j ≡ eqb j r
 one_bit zero zero = refl
@@ -22,14 +18,6 @@ one_bit (suc r) zero = let even : 2 ^ suc r % 2 ≡ 0 = omega (arith, pow-succ' 
 one_bit (suc r) (suc j) = let less : 2 ^ suc r / 2 ≡ 2 ^ r = omega (arith, pow-succ' 2 r) in sym (half (2 ^ suc r) j) ∙ ap (λ w. bit_on w j) less ∙ one_bit r j ∙ ap compare_is_eq (sym (compare.suc-suc j r))
 
 module _ (w r : ℕ) (b : Bool) where
-  -- a word whose bit r is b already
-  pub kept_bit : bit_on w r ≡ b → (j : ℕ) → bit_on w j ≡ cond (eqb j r) b (bit_on w j)
-  kept_bit e j =
-      ⊎_elim
-      (λ q. ap (bit_on w) q ∙ e ∙ sym (cond-true (eqb j r) b (bit_on w j) (eq-eqb j r q)))
-      (λ ne. sym (cond-false (eqb j r) b (bit_on w j) (ne_eqb j r ne)))
-      (cases_eq j r)
-
   -- a word whose bit r is turned to b
   pub turned_bit : not (bit_on w r) ≡ b → (j : ℕ) → bit_on (bit_xor w (2 ^ r)) j ≡ cond (eqb j r) b (bit_on w j)
   turned_bit e j =
@@ -37,13 +25,6 @@ module _ (w r : ℕ) (b : Bool) where
       (λ q. cond-true (eqb j r) (not (bit_on w j)) (bit_on w j) (eq-eqb j r q) ∙ ap (λ i. not (bit_on w i)) q ∙ e ∙ sym (cond-true (eqb j r) b (bit_on w j) (eq-eqb j r q)))
       (λ ne. cond-false (eqb j r) (not (bit_on w j)) (bit_on w j) (ne_eqb j r ne) ∙ sym (cond-false (eqb j r) b (bit_on w j) (ne_eqb j r ne)))
       (cases_eq j r)
-
--- two bits that are tested the same
-pub beq_true : (a b : Bool) → beq a b ≡ true → a ≡ b
-beq_true true true e = refl
-beq_true true false e = sym e
-beq_true false true e = e
-beq_true false false e = refl
 
 -- two bits that are not
 pub beq_false : (a b : Bool) → beq a b ≡ false → not a ≡ b

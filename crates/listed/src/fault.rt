@@ -11,10 +11,10 @@ pub enum ListedFault {
     TooManyLooks,
     #[error("there must be one start byte for each look, and one first more")]
     WrongLengths,
-    // at this entry
+    // this entry of the firsts is the lowest at fault
     #[error("firsts begin at 0, never fall, and end at the number of targets")]
     WrongFirst(u32),
-    // this entry
+    // this entry of the targets is the lowest at fault
     #[error("a target is no state of the map")]
     WrongTarget(u32),
 }

@@ -22,7 +22,7 @@ fn first_is_right(firsts: &[u32], count: usize, i: usize) -> bool
     i + 1 < firsts.len() || (first as usize == count && count <= 32768)
 }
 
-// The lowest entry of the firsts that is not as it should be.
+// The lowest entry of the firsts that is not as it should be. By index: each is asked with the one before it.
 fn wrong_first(firsts: &[u32], count: usize) -> Option<u32>
     requires { length firsts.now ≤ 4097 }
     ensures { result ≡ lowest_no (right_first firsts.now count) (length firsts.now) }

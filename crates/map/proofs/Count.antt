@@ -1,5 +1,5 @@
 -- The lowest no and the greatest value. Assumes nothing.
-use Rattle.std.proofs.Common.{◌≡◌, ℕ, zero, suc, ◌+◌, ◌<◌, ◌≤◌, max, Bool, true, false, cond, Some, None, Option, sym, refl, ap, ◌∙◌, subst, ⊎_elim, add-one, arith}
+use Rattle.std.proofs.Common.{◌≡◌, ℕ, zero, suc, ◌<◌, ◌≤◌, max, Bool, true, false, cond, Some, None, Option, sym, refl, ap, ◌∙◌, subst, ⊎_elim, arith}
 use Rattle.std.proofs.lemmas.Bool.{cases_Bool, cases_lt, cases_eq, cond-true, cond-false}
 use Rattle.map.specs.Counts.{or_else, lowest_no, greatest, CountLaws}
 use Rattle.map.specs.Searches.{LowestNo}
@@ -71,10 +71,6 @@ module _ (f : ℕ → ℕ) where
       (λ l. let p = met n (omega arith) in (p.0, omega (arith, p.1), omega (arith, p.2)))
       (λ l. (n, omega arith, omega arith))
       (cases_lt (f n) (greatest f n))
-
-  -- one number more
-  pub greatest_more : (n most here r : ℕ) → most ≡ greatest f n → here ≡ f n → r ≡ max most here → r ≡ greatest f (n + 1)
-  greatest_more n most here r e h m = rw add-one (cc)
 
 pub count_laws : CountLaws
 count_laws = record { all_yes = all_yes; none_no = none_no; is_no = is_no; no_is = no_is; above = above; met = met }

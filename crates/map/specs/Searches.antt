@@ -2,7 +2,7 @@
 -- Assumes nothing.
 use Rattle.std.specs.Prelude.{◌≡◌, ℕ, ◌<◌, Bool, true, false, List, length, Some, None, Option, slice_index}
 
--- the lowest of the first n numbers at which a test says no, if it does at one
+-- the lowest of the first n numbers at which a test says no, if it does at one; `lowest_no` of Counts is the same of a test that is a function
 pub record LowestNo (Says : ℕ → Bool → Type 0) (n : ℕ) (found : Option ℕ) : Type 0 where
   pub none : found ≡ None → (i : ℕ) → i < n → Says i true
   pub some : (s : ℕ) → found ≡ Some s → (s < n) × Says s false × ((j : ℕ) → j < s → Says j true)

@@ -51,7 +51,7 @@ fn line_of_fault(text: &[u8], fault: ListedFault) -> u32
 fn is_complete(at: Progress) -> bool
     ensures { result ≡ complete at }
 {
-    !matches!(at.place, Place::BeforeMap) && at.states == at.size
+    at.place != Place::BeforeMap && at.states == at.size
 }
 
 // Writes the last first, and makes the map.

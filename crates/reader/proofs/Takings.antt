@@ -8,13 +8,6 @@ use Rattle.reader.specs.Texts.{text_lines}
 use Rattle.reader.specs.declared.fault.Trouble.TheVariants.{TooLong}
 
 module _ {X : Type 0} (step : X → Line → Taken X) (n : ℕ) (x y : X) (rest : List (Result Line LineFault)) where
-  goes_so : (said : Result Line LineFault) → taken (Ok tt) y ≡ taken_by step x said → takes step (n + 1) y rest ≡ takes step n x (said ∷ rest)
-  goes_so (Err fault) e = grind arith
-  goes_so (Ok line) e = ap (λ (t : Taken X). goes_on n t.left t.trouble (λ z. takes step (n + 1) z rest)) e
-
-  -- a line that was taken, and those after it
-  pub went_on : (said : Result Line LineFault) (lines : List (Result Line LineFault)) → lines ≡ said ∷ rest → taken (Ok tt) y ≡ taken_by step x said → takes step (n + 1) y rest ≡ takes step n x lines
-  went_on said lines first e = goes_so said e ∙ ap (takes step n x) (sym first)
 
 module _ {X : Type 0} (step : X → Line → Taken X) (x : X) (text : List ℕ) where
   -- a text that is not too long, by its lines

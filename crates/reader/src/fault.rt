@@ -7,28 +7,32 @@ use calls::fault::SessionFault;
 use listed::fault::ListedFault;
 use map::refusal::Refusal;
 use text::line::LineFault;
+use thiserror::Error;
 
 // Each case is the no to one question; a fault of a line, a map or a session is handed up whole.
-#[derive(Clone, Copy, PartialEq, Eq, Debug)]
+#[derive(Clone, Copy, PartialEq, Eq, Debug, Error)]
 pub enum Trouble {
-    // the text has more than 60,000 bytes
+    #[error("the text has more than 60000 bytes")]
     TooLong,
-    // the line is of no form, or one of its numbers is bad
+    #[error("{0}")]
     Line(LineFault),
-    // the line may not stand here
+    #[error("the line may not stand here")]
     OutOfPlace,
-    // the tables have no space for the line
+    #[error("the tables have no space for the line")]
     NoSpace,
-    // the map text has no M, or not as many S as it says
+    #[error("the map text has no M, or not as many S as it says")]
     Incomplete,
     // the tables that were read make no map
+    #[error("{0}")]
     Map(ListedFault),
     // the session refused the row
+    #[error("{0}")]
     Session(SessionFault),
 }
 
 // The trouble, and its line, counted from 1; 0 where the text is too long.
-#[derive(Clone, Copy, PartialEq, Eq, Debug)]
+#[derive(Clone, Copy, PartialEq, Eq, Debug, Error)]
+#[error("line {line}: {what}")]
 pub struct TextFault {
     pub what: Trouble,
     pub line: u32,
@@ -74,7 +78,7 @@ impl Trouble {
         }
     }
 
-    // The first bad field of the line, the letter being field 1; 0 where the trouble is of another kind.
+    // The first bad field of the line, the letter being field 1; 0 where the trouble is of another kind, as the line of a fault writes it.
     pub fn field(self) -> u32
         ensures { result ≡ field_of self }
     {

@@ -4,7 +4,8 @@ ghost use Rattle.reader.specs.Places.{stands};
 
 use text::line::Line;
 
-#[derive(Clone, Copy)]
+// A reader's place in a text.
+#[derive(Clone, Copy, PartialEq, Eq, Debug)]
 pub enum Place {
     // in a map text, before its M line
     BeforeMap,

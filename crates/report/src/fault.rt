@@ -7,6 +7,7 @@ use map::refusal::Refusal;
 use thiserror::Error;
 use writing::fault::SaveFault;
 
+// Each case is the no to one question. That of `writing` is here under the same name.
 #[derive(Clone, Copy, PartialEq, Eq, Debug, Error)]
 pub enum ReportFault {
     #[error("the sheet has fewer words than the map has states")]

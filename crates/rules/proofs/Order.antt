@@ -1,12 +1,9 @@
 -- Rows in order: each row of a rule list names earlier ones, and one row more keeps it so. Assumes nothing.
-use Rattle.std.proofs.Common.{◌≡◌, ℕ, zero, suc, ◌+◌, ◌<◌, true, List, [], ◌∷◌, ◌++◌, length, take, set, None, Ok, sym, refl, ap, ◌∙◌, subst, arith}
+use Rattle.std.proofs.Common.{◌≡◌, ℕ, zero, suc, ◌+◌, ◌<◌, true, List, [], ◌∷◌, ◌++◌, length, take, set, refl, subst, arith}
 use Rattle.std.proofs.lemmas.List.{take_more_set, length-take-le}
-use Rattle.std.proofs.lemmas.Bool.{and_parts, and_from, lt-ltb}
-use Rattle.map.specs.Questions.{ask, first_no}
+use Rattle.std.proofs.lemmas.Bool.{and_parts, and_from}
 use Rattle.stl.specs.Rows.{named, ordered, row_at}
 use Rattle.stl.specs.declared.row.Row.{Row}
-use Rattle.rules.specs.Lists.{questions, answer, added}
-use Rattle.rules.specs.declared.fault.RuleFault.TheVariants.{TooManyRows, NamesLaterRow}
 
 -- a row of the list names earlier ones
 pub ordered_at : (i : ℕ) (rows : List Row) (r : ℕ) → r < length rows → ordered i rows ≡ true → named (row_at rows r) (i + r) ≡ true
@@ -32,10 +29,3 @@ module _ (rows : List Row) (n : ℕ) (row : Row) (l : n < length rows) (h : name
   ordered_set o =
       let w = length-take-le n rows (omega arith) in
       rw (take_more_set rows n row l) (ordered_push 0 (take n rows) row n (omega (arith, w)) o h)
-
-  -- a row that is not refused
-  pub taken : n < 64 → (Ok n ≡ answer n (first_no (questions n row))) × (take (n + 1) (set rows n row) ≡ added (take n rows) row (first_no (questions n row)))
-  taken few =
-      let room : first_no (questions n row) ≡ first_no (ask (named row n) NamesLaterRow ∷ []) = ap (λ b. first_no (ask b TooManyRows ∷ (ask (named row n) NamesLaterRow ∷ []))) (lt-ltb n 64 few) in
-      let none : first_no (questions n row) ≡ None = room ∙ ap (λ b. first_no (ask b NamesLaterRow ∷ [])) h in
-      (sym (ap (answer n) none), take_more_set rows n row l ∙ sym (ap (added (take n rows) row) none))

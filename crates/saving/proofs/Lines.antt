@@ -43,6 +43,3 @@ all_states m zero = refl
 all_states m (suc n) = ap (λ t. t ++ state_at m n) (all_states m n) ∙ sym (text_append (first_states m n) (lines_of m n))
 
 -- what stands at a place of a list
-
-pub there : {X : Type 0} (xs : List X) (k : ℕ) (d x : X) (o : Option X) → k < length xs → o ≡ slice_get xs k → o ≡ Some x → x ≡ get_or xs k d
-there xs k d x o h e s = let n = slice_get-get_or xs k d h in cc

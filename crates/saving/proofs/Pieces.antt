@@ -23,10 +23,6 @@ front_of f k (suc n) h = ⊎_elim
     (cases_eq k (suc n))
 
 module _ {S : Type 0} {room : S → ℕ} {puts : S → List ℕ → S → Type 0} {keeps : S → S → Type 0} (l : SinkLaws room puts keeps) (f : ℕ → List ℕ) (k : ℕ) where
-  -- one piece more
-  pub put_more : {s t u : S} {r : Result (Unit {0}) SaveFault} → Put room puts keeps s (pieces f k) (Ok tt) t → Put room puts keeps t (f k) r u → Put room puts keeps s (pieces f (k + 1)) r u
-  put_more p q = put_same (sym (one_more f k)) (put_then l p q)
-
   -- a piece without room, so all n have none
   pub put_short : {s t u : S} {x : SaveFault} {r : Result (Unit {0}) SaveFault} (n : ℕ) → k < n → Put room puts keeps s (pieces f k) (Ok tt) t → Put room puts keeps t (f k) (Err x) u → IsErr r → Put room puts keeps s (pieces f n) r u
   put_short n h p q e =

@@ -41,10 +41,6 @@ below_there x r row h e =
 pub row_there : (x : RuleList) (r : ℕ) (row : Row) → Some row ≡ slice_get (rows_of x) r → There x r row
 row_there x r row e = ⊎_elim (λ h. below_there x r row h e) (λ h. never_none row (e ∙ slice_get_past (rows_of x) r h)) (cases_lt r (length (rows_of x)))
 
--- no row
-pub row_missing : (x : RuleList) (r : ℕ) → None ≡ slice_get (rows_of x) r → length (rows_of x) ≤ r
-row_missing x r e = ⊎_elim (λ h. never_none (row_at (rows_of x) r) (sym (e ∙ slice_get-get_or (rows_of x) r True h))) (λ h. h) (cases_lt r (length (rows_of x)))
-
 -- a row that was added: its number, what was asked of it, and the rows after
 pub record Added (before after : RuleList) (row : Row) (r : ℕ) : Type 0 where
   pub number : length (rows_of before) ≡ r

@@ -1,4 +1,5 @@
-// Sessions: rows are added, marked on a map, and asked after. A session's calls are lent its map and its label sheet.
+// Sessions: rows are added, marked on a map, and asked after. A session's calls are lent its map and its label sheet, one by
+// one, so that a caller may lend others.
 #![tactic(auto)]
 
 pub mod ask;

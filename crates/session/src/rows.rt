@@ -14,7 +14,7 @@ use marking::rows::mark_row;
 use stl::row::Row;
 
 // The row that was marked, and its reach.
-#[derive(Clone, Copy)]
+#[derive(Clone, Copy, PartialEq, Eq, Debug)]
 pub struct Marked {
     pub row: u32,
     pub reach: u32,

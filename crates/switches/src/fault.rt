@@ -11,6 +11,7 @@ pub enum SwitchFault {
     WrongSwitchCount,
     #[error("there are more than 32 commands")]
     TooManyCommands,
+    // a mask has a switch that is not there
     #[error("a mask names no switch, or a command turns one both on and off")]
     WrongMask,
 }

@@ -28,9 +28,6 @@ digit_high b h = leb-true b 57 (and_parts (leb 48 b) _ h).1
 
 -- reading from the left
 
-pub read_all : (n : ℕ) (xs : List ℕ) (i : ℕ) → length xs ≤ i → n < 2 ^ 32 → read_on n (drop i xs) ≡ Some n
-read_all n xs i h small = at_drop_all (read_on n) xs i h ∙ cond-true _ _ _ (lt-ltb _ _ small)
-
 -- one digit more, where that is a number
 abbrev pub one_more : ℕ → ℕ → Option ℕ
 one_more n b = cond (digit b && ltb (n * 10 + (b - 48)) (2 ^ 32)) (Some (n * 10 + (b - 48))) None

@@ -52,25 +52,11 @@ impl Refusal for LineFault {
     }
 }
 
-// The size of a map.
-fn read_map(rest: &[u8]) -> Result<Line, LineFault>
-    ensures { result ≡ map_line (fields rest.now) }
-{
-    read_one(rest, 2, u32::MAX).map(Line::Map)
-}
-
 // The look and the start of a state.
 fn read_state(rest: &[u8]) -> Result<Line, LineFault>
     ensures { result ≡ state_line (fields rest.now) }
 {
     read_two(rest, 2, u32::MAX, MAX_START).map(|(look, start)| Line::State(look, start as u8))
-}
-
-// A target.
-fn read_target(rest: &[u8]) -> Result<Line, LineFault>
-    ensures { result ≡ target_line (fields rest.now) }
-{
-    read_one(rest, 2, u32::MAX).map(Line::Target)
 }
 
 // A row.
@@ -85,9 +71,9 @@ pub fn read_line(line: &[u8]) -> Result<Line, LineFault>
     ensures { result ≡ line_of line.now }
 {
     match line {
-        [b'M', 9, rest @ ..] => read_map(rest),
+        [b'M', 9, rest @ ..] => Ok(Line::Map(read_one(rest, 2, u32::MAX)?)),
         [b'S', 9, rest @ ..] => read_state(rest),
-        [b'T', 9, rest @ ..] => read_target(rest),
+        [b'T', 9, rest @ ..] => Ok(Line::Target(read_one(rest, 2, u32::MAX)?)),
         [b'R', 9, rest @ ..] => read_rule(rest),
         _ => Err(LineFault::NotOfAForm),
     }

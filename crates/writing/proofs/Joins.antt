@@ -19,7 +19,3 @@ module _ {S : Type 0} {room : S → ℕ} {puts : S → List ℕ → S → Type 0
     pub put_stop : {s t : S} {x : List ℕ} {f : SaveFault} {r : Result (Unit {0}) SaveFault} (y : List ℕ) → Put room puts keeps s x (Err f) t → IsErr r → Put room puts keeps s (x ++ y) r t
     put_stop {s = s} {t = t} {x = x} {f = f} {r = Ok z} y p e = grind arith
     put_stop {s = s} {t = t} {x = x} {f = f} {r = Err g} y p e = record { put = tt; full = omega (arith, p.full, length-append x y); kept = p.kept }
-
-    -- no text
-    pub put_nothing : (s : S) → Put room puts keeps s [] (Ok tt) s
-    put_nothing s = record { put = l.nothing s; full = tt; kept = l.same s }

@@ -27,8 +27,8 @@ pub trait Sink {
 
 // Only counts: for how many bytes more there is room.
 #[derive(Drop)]
-pub(crate) struct Counter {
-    pub(crate) left: usize,
+pub struct Counter {
+    pub left: usize,
 }
 
 impl Sink for Counter {
@@ -46,11 +46,11 @@ impl Sink for Counter {
     }
 }
 
-// Writes into a buffer, from a place on.
+// Writes into a buffer, from a place on: not into a slice that shrinks, since what was put before must be known to be there still.
 #[derive(Drop)]
-pub(crate) struct Buffer<'a> {
-    pub(crate) out: &'a mut [u8],
-    pub(crate) at: usize,
+pub struct Buffer<'a> {
+    pub out: &'a mut [u8],
+    pub at: usize,
     ghost within: { at ≤ length out.now },
 }
 

@@ -11,7 +11,7 @@ use std::process::Abort;
 use std::test::Fail;
 use stl::row::Row;
 
-// The rows of the example.
+// The rows of the example, written out again, so that no test leans on them as they stand there.
 pub const EIGHT: [Row; 8] = [
     Row::True,
     Row::Sign(0),

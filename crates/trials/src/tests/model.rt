@@ -4,6 +4,9 @@ use map::Map;
 use std::array;
 use stl::row::Row;
 
+// Stands where there is no run.
+pub const NONE: u32 = 4294967295;
+
 // What a row says at each state.
 pub type Says = [bool; 16];
 
@@ -89,8 +92,8 @@ fn one_row<M: Map>(map: &M, facts: &[Says; 16], row: Row) -> Says {
 // What each of the rows says.
 pub(crate) fn all_rows<M: Map>(map: &M, rows: &[Row; 16]) -> [Says; 16] {
     let mut facts = [[false; 16]; 16];
-    for r in 0..16 {
-        facts[r] = one_row(map, &facts, rows[r]);
+    for (r, row) in rows.iter().enumerate() {
+        facts[r] = one_row(map, &facts, *row);
     }
     facts
 }

@@ -2,9 +2,9 @@
 use crate::tests::desk::Desk;
 use crate::tests::four_states::{WORDS, eight_rows, four};
 use crate::tests::marks::SPARE;
+use crate::tests::model::NONE;
 use crate::tests::witnesses::told;
 use calls::fault::SessionFault;
-use lengths::rounds::NONE;
 use listed::table::ListedMap;
 use look::switch::SwitchLook;
 use map::Map;

@@ -1,9 +1,8 @@
 // Shortest runs, against the model.
 use crate::tests::desk::Desk;
 use crate::tests::marks::{SPARE, add_all};
-use crate::tests::model::{Says, all_rows, at, row_of, shortest};
+use crate::tests::model::{NONE, Says, all_rows, at, row_of, shortest};
 use calls::fault::SessionFault;
-use lengths::rounds::NONE;
 use map::Map;
 use map::refusal::Refusal;
 use std::process::Abort;

@@ -3,7 +3,6 @@ use Rattle.std.proofs.lemmas.Grind.{common_steps}
 use Rattle.reader.specs.Readings.{taken, taken_by}
 use Rattle.reader.specs.Texts.{text_lines}
 use Rattle.reader.proofs.Endings.{lines_few}
-use Rattle.reader.proofs.Takings.{went_on}
 use Rattle.reader.proofs.reading.read_text.Goals as goal
 
 pub loop-said-init : goal.loop-said-init

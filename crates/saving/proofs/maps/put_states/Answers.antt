@@ -1,8 +1,8 @@
 use Rattle.std.proofs.Common.{◌≡◌, ◌^◌, ◌<◌, ap, ◌∙◌, arith, below_more, rules}
-use Rattle.writing.proofs.Joins.{put_same, put_nothing}
+use Rattle.writing.proofs.Joins.{put_same}
 use Rattle.saving.specs.Texts.{marks_of}
 use Rattle.saving.proofs.Lines.{state_at, all_states}
-use Rattle.saving.proofs.Pieces.{pieces, put_more, put_short}
+use Rattle.saving.proofs.Pieces.{pieces, put_short}
 use Rattle.saving.proofs.maps.put_states.Goals as goal
 
 pub returns-in_err-put_state-clause-put : goal.returns-in_err-put_state-clause-put

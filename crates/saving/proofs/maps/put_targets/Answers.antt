@@ -1,8 +1,8 @@
 use Rattle.std.proofs.Common.{◌≡◌, length, ap, ◌∙◌, arith}
 use Rattle.text.specs.declared.line.Line.TheVariants.{Target}
-use Rattle.writing.proofs.Joins.{put_same, put_nothing}
+use Rattle.writing.proofs.Joins.{put_same}
 use Rattle.saving.proofs.Lines.{line_at, all_lines}
-use Rattle.saving.proofs.Pieces.{pieces, put_more, put_short}
+use Rattle.saving.proofs.Pieces.{pieces, put_short}
 use Rattle.saving.proofs.maps.put_targets.Goals as goal
 
 pub returns-in_err-put_target : goal.returns-in_err-put_target

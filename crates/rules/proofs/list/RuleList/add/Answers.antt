@@ -1,5 +1,5 @@
 use Rattle.std.proofs.Common.{◌<◌, length, sym, arith, rules}
-use Rattle.rules.proofs.Order.{ordered_set, taken}
+use Rattle.rules.proofs.Order.{ordered_set}
 use Rattle.rules.proofs.list.RuleList.add.Goals as goal
 
 pub invariant_of-self : goal.invariant_of-self

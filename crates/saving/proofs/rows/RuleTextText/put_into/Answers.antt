@@ -1,9 +1,9 @@
 use Rattle.std.proofs.Common.{◌≡◌, length, take, ap, ◌∙◌, arith}
 use Rattle.stl.specs.declared.row.Row.TheVariants.{True}
 use Rattle.text.specs.declared.line.Line.TheVariants.{Rule}
-use Rattle.writing.proofs.Joins.{put_same, put_nothing}
+use Rattle.writing.proofs.Joins.{put_same}
 use Rattle.saving.proofs.Lines.{line_at, all_lines}
-use Rattle.saving.proofs.Pieces.{pieces, put_more, put_short}
+use Rattle.saving.proofs.Pieces.{pieces, put_short}
 use Rattle.saving.proofs.rows.RuleTextText.put_into.Goals as goal
 
 pub returns-in_err-put_row-clause-put : goal.returns-in_err-put_row-clause-put

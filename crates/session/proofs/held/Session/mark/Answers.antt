@@ -1,9 +1,9 @@
 use Rattle.std.proofs.Common.{arith}
-use Rattle.calls.proofs.Given.{mark_refused, mark_given}
+use Rattle.calls.proofs.Given.{mark_given}
 use Rattle.lengths.specs.Sheets.{by_sheet}
 use Rattle.map.proofs.Moves.{well_formed}
 use Rattle.stl.proofs.Rows.{reach_below}
-use Rattle.session.proofs.RowFacts.{rows_long, row_there, row_missing}
+use Rattle.session.proofs.RowFacts.{rows_long, row_there}
 use Rattle.session.proofs.held.Session.mark.Goals as goal
 
 pub mark_row-reach-requires : goal.mark_row-reach-requires
