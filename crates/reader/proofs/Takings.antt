@@ -1,13 +1,10 @@
 -- Lines taken one after another, one step. Assumes nothing.
-use Rattle.std.proofs.Common.{◌≡◌, ℕ, ◌+◌, ◌<◌, ◌≤◌, leb, length, Some, List, ◌∷◌, Ok, Err, Result, ap, ◌∙◌, sym, arith}
+use Rattle.std.proofs.Common.{◌≡◌, ℕ, ◌<◌, ◌≤◌, leb, length, Some, List}
 use Rattle.std.proofs.lemmas.Bool.{cond-true, cond-false, le-leb, lt-leb}
 use Rattle.text.specs.declared.line.Line.{Line}
-use Rattle.text.specs.declared.line.LineFault.{LineFault}
-use Rattle.reader.specs.Readings.{Taken, taken, taken_by, goes_on, takes, at_line, text_read}
+use Rattle.reader.specs.Readings.{Taken, takes, at_line, text_read}
 use Rattle.reader.specs.Texts.{text_lines}
 use Rattle.reader.specs.declared.fault.Trouble.TheVariants.{TooLong}
-
-module _ {X : Type 0} (step : X → Line → Taken X) (n : ℕ) (x y : X) (rest : List (Result Line LineFault)) where
 
 module _ {X : Type 0} (step : X → Line → Taken X) (x : X) (text : List ℕ) where
   -- a text that is not too long, by its lines

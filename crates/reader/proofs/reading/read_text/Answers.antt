@@ -1,6 +1,5 @@
-use Rattle.std.proofs.Common.{◌≡◌, ℕ, ◌+◌, ◌-◌, ◌∷◌, Ok, length, subst, sym, ap, ◌∙◌, arith, rules}
+use Rattle.std.proofs.Common.{◌≡◌, ◌-◌, ◌∷◌, length, subst, ap, arith, rules}
 use Rattle.std.proofs.lemmas.Grind.{common_steps}
-use Rattle.reader.specs.Readings.{taken, taken_by}
 use Rattle.reader.specs.Texts.{text_lines}
 use Rattle.reader.proofs.Endings.{lines_few}
 use Rattle.reader.proofs.reading.read_text.Goals as goal
