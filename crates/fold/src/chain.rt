@@ -15,8 +15,8 @@ fn all_below(first: &[u32], n: usize) -> bool
     first.iter().all(|class| (*class as usize) < n)
 }
 
-// For each entry of the first table, that entry of the second. Written by index: of what is written through `iter_mut`, a proof knows
-// only the length.
+// For each entry of the first table, that entry of the second. Written by index: of what is written through an adapter of `iter_mut` a
+// proof knows nothing.
 fn write_chain(first: &[u32], second: &[u32], out: &mut [u32])
     requires sized { length out.old ≡ length first.now }
     requires below { AllBelow (length second.now) first.now }

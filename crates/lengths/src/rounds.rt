@@ -45,8 +45,8 @@ impl<'a, M: Map> Until<'a, M> {
             && step_to(self.map, s, work, d).is_some()
     }
 
-    // Round 0: length 0 for the states with label b. Written by index: of what is written through `iter_mut`, a proof knows only the
-    // length.
+    // Round 0: length 0 for the states with label b. Written by index: the state is wanted beside its entry, and of what is written through
+    // `iter_mut().enumerate()` a proof knows nothing.
     fn first_round(&self, work: &mut [u32])
         requires { (M.meaning self.now.map.now).size ≤ length work.old }
         ensures { Begun (structure M.L.Look.sign (M.meaning self.now.map.now)) (by_sheet self.now.sheet.now self.now.a) (by_sheet self.now.sheet.now self.now.b) (M.meaning self.now.map.now).size work.old work.new }
@@ -60,7 +60,8 @@ impl<'a, M: Map> Until<'a, M> {
         }
     }
 
-    // Round d + 1: length d + 1 for the states that are due. Answers whether there was one.
+    // Round d + 1: length d + 1 for the states that are due. Answers whether there was one. By index: `due` reads the table in the same
+    // loop.
     fn one_round(&self, d: u32, work: &mut [u32]) -> bool
         requires entries { (M.meaning self.now.map.now).size ≤ length work.old }
         requires small { d ≤ 4096 }

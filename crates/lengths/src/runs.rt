@@ -7,7 +7,8 @@ use crate::rounds::step_to;
 use look::Look;
 use map::Map;
 
-// Writes a run from s down the table, s first, into the first entries of `run`. Written by index (see `first_round`).
+// Writes a run from s down the table, s first, into the first entries of `run`. By index: of what is written through an adapter of
+// `iter_mut` a proof knows nothing.
 pub fn write_run<M: Map>(map: &M, s: u32, work: &[u32], run: &mut [u32])
     requires state { s < (M.meaning map.now).size }
     requires entries { (M.meaning map.now).size ≤ length work.now }

@@ -37,8 +37,7 @@ fn satisfied<M: Map>(map: &M, sheet: &[u64], work: &[u32], row: Row, s: u32) -> 
     }
 }
 
-// Writes bit r of each word: whether the row is satisfied at its state. Written by index: of what is written through `iter_mut`, a proof
-// knows only the length.
+// Writes bit r of each word: whether the row is satisfied at its state. By index: the sheet is read in the same loop.
 fn write_row<M: Map>(map: &M, sheet: &mut [u64], r: u32, row: Row, work: &[u32])
     requires bit { r < 64 }
     requires words { (M.meaning map.now).size ≤ length sheet.old }

@@ -27,7 +27,8 @@ fn found_of<M: Map>(session: &Session, map: &M, sheet: &[u64], r: u32) -> Found
     }
 }
 
-// Fills the first entries with the results of the marked rows. They are written by index (see `write_row` of `marking`).
+// Fills the first entries with the results of the marked rows. They are written by index: of what is written through an adapter of `iter_mut` a
+// proof knows nothing.
 pub(crate) fn collect<M: Map>(session: &Session, map: &M, sheet: &[u64], finds: &mut [Found])
     requires words { (M.meaning map.now).size ≤ length sheet.now }
     requires entries { (state session.now).marked ≤ length finds.old }

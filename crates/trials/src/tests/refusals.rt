@@ -107,21 +107,10 @@ fn a_short_sheet(rt: HostRuntime) -> Result<(), Fail> {
     let map = four(&rig);
     let mut desk = Desk::open(&map, FIVE)?;
     eight_rows(&rt, &mut desk, 7)?;
-    let Desk {
-        map,
-        mut sheet,
-        mut session,
-    } = desk;
-    let end = sheet.len().min(3);
-    refuses_all(&rt, map, &mut session, &mut sheet[..end]);
-    goes_on(
-        &rt,
-        Desk {
-            map,
-            sheet,
-            session,
-        },
-    )
+    let mut short = [SEVEN[0], SEVEN[1], SEVEN[2]];
+    refuses_all(&rt, &map, &mut desk.session, &mut short);
+    assert!(rt; short == [SEVEN[0], SEVEN[1], SEVEN[2]]);
+    goes_on(&rt, desk)
 }
 
 // Row number r of a full list: true, not true, true, and so on.
