@@ -1,8 +1,12 @@
 // The worked example, with the facts that are proved of it, and the cases that are run and compared.
 #![tactic(auto)]
 
-ghost use Rattle.rig.specs.Worked.{WorkedFacts};
+ghost use Rattle.std.specs.Prelude.{◌≡◌};
+ghost use Rattle.listed.specs.Tables.{questions};
+ghost use Rattle.map.specs.Questions.{first_no};
+ghost use Rattle.rig.specs.Worked.{WorkedFacts, tables_of};
 
+use listed::table::ListedMap;
 use look::level::LevelLook;
 use look::switch::SwitchLook;
 use stl::row::Row;
@@ -24,6 +28,19 @@ pub struct Rig {
     pub levels: [LevelLook; 3],
     pub panel: Panel,
     pub commands: [Command; 1],
+}
+
+impl Rig {
+    // The four-state map.
+    pub fn map(&self) -> ListedMap<'_, SwitchLook>
+        ensures looks { result.looks.now ≡ self.now.looks }
+        ensures starts { result.starts.now ≡ self.now.starts }
+        ensures firsts { result.firsts.now ≡ self.now.firsts }
+        ensures targets { result.targets.now ≡ self.now.targets }
+        ensures fault { result.fault ≡ first_no (questions (tables_of self.now)) }
+    {
+        ListedMap::new(&self.looks, &self.starts, &self.firsts, &self.targets)
+    }
 }
 
 // The worked example; its promise is what the definitions say of it.

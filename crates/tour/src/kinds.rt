@@ -1,7 +1,6 @@
 // The other kinds of map: one of switches, and the joint of two maps.
 use crate::show;
 use joint::pair::JointMap;
-use listed::table::ListedMap;
 use rig::worked_example;
 use std::io;
 use switches::made::SwitchMap;
@@ -24,7 +23,7 @@ pub(crate) fn joint_of_both(rt: &HostRuntime) -> io::Result<()> {
         "State (a, b) has number a x 4 + b; sign 2k is sign k of a, sign 2k + 1 is sign k of b."
     )?;
     let switches = SwitchMap::new(rig.panel, &rig.commands);
-    let four = ListedMap::new(&rig.looks, &rig.starts, &rig.firsts, &rig.targets);
+    let four = rig.map();
     let map = JointMap::new(switches, four);
     show::made(rt, &map)?;
     show::states(rt, &map)

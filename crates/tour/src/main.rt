@@ -8,7 +8,6 @@ mod rows;
 mod runs;
 mod show;
 
-use listed::table::ListedMap;
 use rig::worked_example;
 use std::io;
 
@@ -17,7 +16,7 @@ fn walk_the_example(rt: &HostRuntime) -> io::Result<()> {
     let rig = worked_example();
     println!(rt; "1. A map of four states")?;
     show::tables(rt, &rig.looks, &rig.starts, &rig.firsts, &rig.targets)?;
-    let map = ListedMap::new(&rig.looks, &rig.starts, &rig.firsts, &rig.targets);
+    let map = rig.map();
     show::made(rt, &map)?;
     show::states(rt, &map)?;
     show::walk(rt, &map, 0)

@@ -27,7 +27,7 @@ fn tried<T: Drop>(
 fn refuse_to_open(rt: &HostRuntime, rig: &Rig) -> io::Result<()> {
     let looks: [SwitchLook; 0] = [];
     let empty = ListedMap::new(&looks, &[], &[0], &[]);
-    let map = ListedMap::new(&rig.looks, &rig.starts, &rig.firsts, &rig.targets);
+    let map = rig.map();
     let mut sheet = [7; 3];
     tried(
         rt,
@@ -139,7 +139,7 @@ fn refuse_for_want_of_a_run<M: Map>(rt: &HostRuntime, map: &M) -> io::Result<()>
 
 pub(crate) fn show_each(rt: &HostRuntime) -> io::Result<()> {
     let rig = worked_example();
-    let map = ListedMap::new(&rig.looks, &rig.starts, &rig.firsts, &rig.targets);
+    let map = rig.map();
     let mut sheet = [0; 4];
     println!(rt; "7. What a session refuses")?;
     refuse_to_open(rt, &rig)?;

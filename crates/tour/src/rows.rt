@@ -1,7 +1,6 @@
 // Rules on the four-state map: rows added, marked and asked after.
 use crate::show;
 use calls::fault::SessionFault;
-use listed::table::ListedMap;
 use map::Map;
 use rig::worked_example;
 use session::held::Session;
@@ -118,7 +117,7 @@ fn mark_each<M: Map>(
 // The eight rows of the example: added, marked, and their labels read.
 pub(crate) fn hold_the_rows(rt: &HostRuntime) -> io::Result<()> {
     let rig = worked_example();
-    let map = ListedMap::new(&rig.looks, &rig.starts, &rig.firsts, &rig.targets);
+    let map = rig.map();
     let mut sheet = [0; 4];
     println!(rt; "5. Eight rows on the map of four states")?;
     let mut session = match Session::open(&map, &mut sheet) {

@@ -1,7 +1,6 @@
 // Shortest runs on the four-state map.
 use crate::rows::{Held, ready};
 use crate::show;
-use listed::table::ListedMap;
 use map::Map;
 use rig::worked_example;
 use std::io;
@@ -24,7 +23,7 @@ fn step_from<M: Map>(rt: &HostRuntime, held: &Held<'_, M>, s: u32) -> io::Result
 // A shortest run for row 6 from each state.
 pub(crate) fn step_the_runs(rt: &HostRuntime) -> io::Result<()> {
     let rig = worked_example();
-    let map = ListedMap::new(&rig.looks, &rig.starts, &rig.firsts, &rig.targets);
+    let map = rig.map();
     let mut sheet = [0; 4];
     println!(rt; "6. Shortest runs for row 6: to a state that satisfies row 5")?;
     let session = match ready(&map, &mut sheet, &rig.rows) {

@@ -84,11 +84,6 @@ fn answers_as_paired<A: Map, B: Map, J: Map>(rt: &impl Abort, left: &A, right: &
     assert!(rt; both.list_len(s) == 0 && both.entry(s, 0).is_none());
 }
 
-// The four-state map, made anew.
-fn four(rig: &Rig) -> ListedMap<'_, SwitchLook> {
-    ListedMap::new(&rig.looks, &rig.starts, &rig.firsts, &rig.targets)
-}
-
 // A map of two switches, made anew.
 fn flip() -> SwitchMap<'static> {
     SwitchMap::new(PANEL, &FLIP)
@@ -97,41 +92,31 @@ fn flip() -> SwitchMap<'static> {
 #[test]
 fn joints_of_listed_and_switch_maps(rt: HostRuntime) {
     let rig = worked_example();
+    answers_as_paired(&rt, &rig.map(), &flip(), &JointMap::new(rig.map(), flip()));
+    answers_as_paired(&rt, &flip(), &rig.map(), &JointMap::new(flip(), rig.map()));
     answers_as_paired(
         &rt,
-        &four(&rig),
-        &flip(),
-        &JointMap::new(four(&rig), flip()),
-    );
-    answers_as_paired(
-        &rt,
-        &flip(),
-        &four(&rig),
-        &JointMap::new(flip(), four(&rig)),
-    );
-    answers_as_paired(
-        &rt,
-        &four(&rig),
-        &four(&rig),
-        &JointMap::new(four(&rig), four(&rig)),
+        &rig.map(),
+        &rig.map(),
+        &JointMap::new(rig.map(), rig.map()),
     );
 }
 
 #[test]
 fn joints_of_a_joint(rt: HostRuntime) {
     let rig = worked_example();
-    let both = JointMap::new(four(&rig), flip());
+    let both = JointMap::new(rig.map(), flip());
     answers_as_paired(
         &rt,
         &both,
         &flip(),
-        &JointMap::new(JointMap::new(four(&rig), flip()), flip()),
+        &JointMap::new(JointMap::new(rig.map(), flip()), flip()),
     );
     answers_as_paired(
         &rt,
-        &four(&rig),
+        &rig.map(),
         &both,
-        &JointMap::new(four(&rig), JointMap::new(four(&rig), flip())),
+        &JointMap::new(rig.map(), JointMap::new(rig.map(), flip())),
     );
 }
 
@@ -149,12 +134,12 @@ fn refused() -> SwitchMap<'static> {
 fn joints_with_an_empty_map(rt: HostRuntime) {
     let rig = worked_example();
     assert!(rt; empty().fault().is_none());
-    assert_eq!(rt; told(four(&rig), empty()), (0, None));
+    assert_eq!(rt; told(rig.map(), empty()), (0, None));
     answers_as_paired(
         &rt,
-        &four(&rig),
+        &rig.map(),
         &empty(),
-        &JointMap::new(four(&rig), empty()),
+        &JointMap::new(rig.map(), empty()),
     );
 }
 
@@ -162,12 +147,12 @@ fn joints_with_an_empty_map(rt: HostRuntime) {
 fn joints_with_a_refused_map(rt: HostRuntime) {
     let rig = worked_example();
     assert!(rt; refused().fault().is_some());
-    assert_eq!(rt; told(refused(), four(&rig)), (0, None));
+    assert_eq!(rt; told(refused(), rig.map()), (0, None));
     answers_as_paired(
         &rt,
         &refused(),
-        &four(&rig),
-        &JointMap::new(refused(), four(&rig)),
+        &rig.map(),
+        &JointMap::new(refused(), rig.map()),
     );
 }
 

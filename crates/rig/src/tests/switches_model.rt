@@ -49,6 +49,7 @@ fn turned(s: u32, on: u32, off: u32) -> u32 {
 
 // The list of s is the targets of the commands that fit, in their order.
 fn lists_as_written(rt: &impl Abort, map: &SwitchMap<'_>, commands: &[Command], s: u32) {
+    // counted by hand: each answer is tried at the number that it should have
     let mut count: u32 = 0;
     for c in commands.iter().filter(|c| fits(s, c.need_on, c.need_off)) {
         assert_eq!(rt; map.entry(s, count), Some(turned(s, c.turn_on, c.turn_off)));

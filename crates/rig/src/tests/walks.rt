@@ -4,7 +4,6 @@ use listed::table::ListedMap;
 use look::Look;
 use look::joint::JointLook;
 use look::level::LevelLook;
-use look::switch::SwitchLook;
 use map::Map;
 use map::made::Made;
 use map::read::{longest_list, moves_to, sign_at};
@@ -37,7 +36,7 @@ fn has_the_four_states<M: Map>(rt: &impl Abort, map: &M) {
 #[test]
 fn switch_looks_in_a_listed_map(rt: HostRuntime) {
     let rig = worked_example();
-    let map = ListedMap::new(&rig.looks, &rig.starts, &rig.firsts, &rig.targets);
+    let map = rig.map();
     has_the_four_states(&rt, &map);
     assert!(rt; !sign_at(&map, 0, 0) && !sign_at(&map, 0, 1));
     assert!(rt; !sign_at(&map, 1, 0) && sign_at(&map, 1, 1));

@@ -1,10 +1,10 @@
 // The four-state map, with every answer written out by hand.
 use crate::tests::desk::Desk;
 use crate::tests::dice::Dice;
+use crate::tests::marks::add_all;
 use crate::tests::small_maps::tried;
 use crate::tests::witnesses::told;
 use listed::table::ListedMap;
-use look::switch::SwitchLook;
 use map::Map;
 use rig::{Rig, worked_example};
 use std::process::Abort;
@@ -26,20 +26,13 @@ pub const EIGHT: [Row; 8] = [
 // The words of the four states once the eight rows are marked.
 pub const WORDS: [u64; 4] = [89, 221, 87, 99];
 
-// The four-state map, made anew.
-pub(crate) fn four(rig: &Rig) -> ListedMap<'_, SwitchLook> {
-    ListedMap::new(&rig.looks, &rig.starts, &rig.firsts, &rig.targets)
-}
-
 // Adds the eight rows, and marks the first `count`.
 pub(crate) fn eight_rows<M: Map, const N: usize>(
     rt: &impl Abort,
     desk: &mut Desk<'_, M, N>,
     count: u32,
 ) -> Result<(), Fail> {
-    for (r, row) in (0..).zip(&EIGHT) {
-        assert_eq!(rt; desk.add(*row)?, r);
-    }
+    add_all(rt, desk, &EIGHT)?;
     for r in 0..count {
         assert_eq!(rt; desk.mark()?.row, r);
     }
@@ -49,13 +42,13 @@ pub(crate) fn eight_rows<M: Map, const N: usize>(
 #[test]
 fn the_four_states_and_the_model(rt: HostRuntime) -> Result<(), Fail> {
     let rig = worked_example();
-    tried(&rt, &four(&rig), &mut Dice { seed: 14 })
+    tried(&rt, &rig.map(), &mut Dice { seed: 14 })
 }
 
 #[test]
 fn labels_and_reaches(rt: HostRuntime) -> Result<(), Fail> {
     let rig = worked_example();
-    let map = four(&rig);
+    let map = rig.map();
     let mut desk = Desk::open(&map, [9; 4])?;
     eight_rows(&rt, &mut desk, 6)?;
     let done = desk.mark()?;
@@ -69,7 +62,7 @@ fn labels_and_reaches(rt: HostRuntime) -> Result<(), Fail> {
 #[test]
 fn verdicts(rt: HostRuntime) -> Result<(), Fail> {
     let rig = worked_example();
-    let map = four(&rig);
+    let map = rig.map();
     let mut desk = Desk::open(&map, [9; 4])?;
     eight_rows(&rt, &mut desk, 8)?;
     let expected = [true, false, false, true, true, false, true, false];
@@ -82,7 +75,7 @@ fn verdicts(rt: HostRuntime) -> Result<(), Fail> {
 #[test]
 fn runs(rt: HostRuntime) -> Result<(), Fail> {
     let rig = worked_example();
-    let map = four(&rig);
+    let map = rig.map();
     let mut desk = Desk::open(&map, [9; 4])?;
     eight_rows(&rt, &mut desk, 8)?;
     let mut work = [5; 5];

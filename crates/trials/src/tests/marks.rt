@@ -41,10 +41,10 @@ fn at_all_starts<M: Map>(map: &M, says: &Says) -> bool {
 }
 
 // Adds the rows, in order.
-pub(crate) fn add_all<M: Map>(
+pub(crate) fn add_all<M: Map, const N: usize>(
     rt: &impl Abort,
-    desk: &mut Desk<'_, M, 20>,
-    rows: &[Row; 16],
+    desk: &mut Desk<'_, M, N>,
+    rows: &[Row],
 ) -> Result<(), Fail> {
     for (r, row) in (0..).zip(rows) {
         assert_eq!(rt; desk.add(*row)?, r);

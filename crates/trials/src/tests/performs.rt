@@ -1,6 +1,5 @@
 // Calls as values, against the calls themselves.
 use crate::tests::dice::{Dice, thrown_row, thrown_tables};
-use crate::tests::four_states::four;
 use calls::call::{Answer, Call};
 use calls::fault::SessionFault;
 use map::Map;
@@ -131,7 +130,7 @@ fn written_asked() -> [Call; 18] {
 #[test]
 fn written_calls(rt: HostRuntime) -> Result<(), Fail> {
     let rig = worked_example();
-    let map = four(&rig);
+    let map = rig.map();
     let asked = written_asked();
     for (i, (_, answer)) in CASES.iter().enumerate() {
         assert_eq!(rt; alike(&rt, &map, &asked[..i + 1])?, *answer);

@@ -1,6 +1,6 @@
 // Each refusal by its number, with all that is lent as it was.
 use crate::tests::desk::Desk;
-use crate::tests::four_states::{WORDS, eight_rows, four};
+use crate::tests::four_states::{WORDS, eight_rows};
 use crate::tests::marks::SPARE;
 use crate::tests::model::NONE;
 use crate::tests::witnesses::told;
@@ -80,7 +80,7 @@ fn no_state(rt: HostRuntime) {
 #[test]
 fn a_short_sheet_to_open(rt: HostRuntime) {
     let rig = worked_example();
-    let map = four(&rig);
+    let map = rig.map();
     refuses_open(&rt, &map, 3, 17);
     refuses_open(&rt, &map, 0, 17);
     let mut sheet = FIVE;
@@ -104,7 +104,7 @@ fn refuses_all<M: Map>(rt: &impl Abort, map: &M, session: &mut Session, sheet: &
 #[test]
 fn a_short_sheet(rt: HostRuntime) -> Result<(), Fail> {
     let rig = worked_example();
-    let map = four(&rig);
+    let map = rig.map();
     let mut desk = Desk::open(&map, FIVE)?;
     eight_rows(&rt, &mut desk, 7)?;
     let mut short = [SEVEN[0], SEVEN[1], SEVEN[2]];
@@ -137,7 +137,7 @@ fn fill<M: Map>(rt: &impl Abort, desk: &mut Desk<'_, M, 5>) -> Result<(), Fail> 
 #[test]
 fn a_row_too_many(rt: HostRuntime) -> Result<(), Fail> {
     let rig = worked_example();
-    let map = four(&rig);
+    let map = rig.map();
     let mut desk = Desk::open(&map, FIVE)?;
     fill(&rt, &mut desk)?;
     assert_eq!(rt; number(desk.add(Row::True)), Some(18));
@@ -153,7 +153,7 @@ fn a_row_too_many(rt: HostRuntime) -> Result<(), Fail> {
 #[test]
 fn a_row_that_names_no_earlier_row(rt: HostRuntime) -> Result<(), Fail> {
     let rig = worked_example();
-    let map = four(&rig);
+    let map = rig.map();
     let mut desk = Desk::open(&map, FIVE)?;
     eight_rows(&rt, &mut desk, 7)?;
     for row in [
@@ -172,7 +172,7 @@ fn a_row_that_names_no_earlier_row(rt: HostRuntime) -> Result<(), Fail> {
 #[test]
 fn nothing_to_mark(rt: HostRuntime) -> Result<(), Fail> {
     let rig = worked_example();
-    let map = four(&rig);
+    let map = rig.map();
     let mut desk = Desk::open(&map, FIVE)?;
     eight_rows(&rt, &mut desk, 8)?;
     let before = desk.sheet;
@@ -189,7 +189,7 @@ fn nothing_to_mark(rt: HostRuntime) -> Result<(), Fail> {
 #[test]
 fn no_such_state(rt: HostRuntime) -> Result<(), Fail> {
     let rig = worked_example();
-    let map = four(&rig);
+    let map = rig.map();
     let mut desk = Desk::open(&map, FIVE)?;
     eight_rows(&rt, &mut desk, 7)?;
     assert_eq!(rt; number(desk.label(4, 0)), Some(21));
@@ -202,7 +202,7 @@ fn no_such_state(rt: HostRuntime) -> Result<(), Fail> {
 #[test]
 fn not_marked(rt: HostRuntime) -> Result<(), Fail> {
     let rig = worked_example();
-    let map = four(&rig);
+    let map = rig.map();
     let mut desk = Desk::open(&map, FIVE)?;
     eight_rows(&rt, &mut desk, 7)?;
     for r in [7, 8, 64, u32::MAX] {
@@ -216,7 +216,7 @@ fn not_marked(rt: HostRuntime) -> Result<(), Fail> {
 #[test]
 fn no_until(rt: HostRuntime) -> Result<(), Fail> {
     let rig = worked_example();
-    let map = four(&rig);
+    let map = rig.map();
     let mut desk = Desk::open(&map, FIVE)?;
     eight_rows(&rt, &mut desk, 7)?;
     for r in 0..6 {
@@ -228,7 +228,7 @@ fn no_until(rt: HostRuntime) -> Result<(), Fail> {
 #[test]
 fn a_short_work_table(rt: HostRuntime) -> Result<(), Fail> {
     let rig = worked_example();
-    let map = four(&rig);
+    let map = rig.map();
     let (mut work, mut run) = (OLD, OLD);
     let mut desk = Desk::open(&map, FIVE)?;
     eight_rows(&rt, &mut desk, 7)?;
@@ -251,7 +251,7 @@ fn no_run_from<M: Map>(rt: &impl Abort, desk: &Desk<'_, M, 5>, s: u32) {
 #[test]
 fn no_run(rt: HostRuntime) -> Result<(), Fail> {
     let rig = worked_example();
-    let map = four(&rig);
+    let map = rig.map();
     let mut desk = Desk::open(&map, FIVE)?;
     eight_rows(&rt, &mut desk, 8)?;
     assert_eq!(rt; desk.add(Row::Until(2, 5))?, 8);
@@ -269,7 +269,7 @@ fn no_run(rt: HostRuntime) -> Result<(), Fail> {
 #[test]
 fn a_short_run_table(rt: HostRuntime) -> Result<(), Fail> {
     let rig = worked_example();
-    let map = four(&rig);
+    let map = rig.map();
     let (mut work, mut run) = (OLD, OLD);
     let mut desk = Desk::open(&map, FIVE)?;
     eight_rows(&rt, &mut desk, 7)?;
