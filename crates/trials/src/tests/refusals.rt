@@ -89,14 +89,15 @@ fn a_short_sheet_to_open(rt: HostRuntime) {
 }
 
 // Every call is refused where the sheet is too short.
-fn refuses_all<M: Map>(rt: &impl Abort, map: &M, session: &mut Session, sheet: &mut [u64]) {
+fn refuses_all<M: Map>(rt: &impl Abort, desk: &mut Desk<'_, M, 5>, sheet: &mut [u64]) {
     let (mut work, mut run) = (OLD, OLD);
-    assert_eq!(rt; number(session.add(map, sheet, Row::True)), Some(17));
-    assert_eq!(rt; number(session.add(map, sheet, Row::Not(8))), Some(17));
-    assert_eq!(rt; number(session.mark(map, sheet)), Some(17));
-    assert_eq!(rt; number(session.label(map, sheet, 0, 0)), Some(17));
-    assert_eq!(rt; number(session.verdict(map, sheet, 0)), Some(17));
-    let answer = session.witness(map, sheet, 0, 6, &mut work, &mut run);
+    let map = desk.map;
+    assert_eq!(rt; number(desk.session.add(map, sheet, Row::True)), Some(17));
+    assert_eq!(rt; number(desk.session.add(map, sheet, Row::Not(8))), Some(17));
+    assert_eq!(rt; number(desk.session.mark(map, sheet)), Some(17));
+    assert_eq!(rt; number(desk.session.label(map, sheet, 0, 0)), Some(17));
+    assert_eq!(rt; number(desk.session.verdict(map, sheet, 0)), Some(17));
+    let answer = desk.session.witness(map, sheet, 0, 6, &mut work, &mut run);
     assert_eq!(rt; told(answer), Err((17, None)));
     assert!(rt; work == OLD && run == OLD);
 }
@@ -108,7 +109,7 @@ fn a_short_sheet(rt: HostRuntime) -> Result<(), Fail> {
     let mut desk = Desk::open(&map, FIVE)?;
     eight_rows(&rt, &mut desk, 7)?;
     let mut short = [SEVEN[0], SEVEN[1], SEVEN[2]];
-    refuses_all(&rt, &map, &mut desk.session, &mut short);
+    refuses_all(&rt, &mut desk, &mut short);
     assert!(rt; short == [SEVEN[0], SEVEN[1], SEVEN[2]]);
     goes_on(&rt, desk)
 }
