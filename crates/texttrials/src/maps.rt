@@ -62,11 +62,18 @@ impl Tables {
     }
 }
 
-// Appends the name of a table, and its first sixteen entries.
-fn say_table<T: Copy + Into<u32>>(out: &mut Vec<u8>, name: &str, table: &[T]) -> io::Result<()> {
+// Appends the name of a table, and its first sixteen entries, each as a number.
+fn say_table<T, F: Fn(&T) -> u32>(
+    out: &mut Vec<u8>,
+    name: &str,
+    table: &[T],
+    number: F,
+) -> io::Result<()>
+    requires { F.IsAlwaysCallable number }
+{
     write!(out, " {name}")?;
     for entry in table.iter().take(16) {
-        let n: u32 = (*entry).into();
+        let n = number(entry);
         write!(out, " {n}")?;
     }
     Ok(())
@@ -84,14 +91,15 @@ pub(crate) fn run_map(heap: Global, out: &mut Vec<u8>, rest: &str) -> io::Result
         Ok(MapSize { states, moves }) => write!(out, "ok {states} {moves}")?,
         Err(fault) => write!(out, "{}", Said(fault))?,
     }
-    write!(out, " looks")?;
-    for look in tables.looks.iter().take(16) {
-        let marks = look.marks;
-        write!(out, " {marks}")?;
-    }
-    say_table(out, "starts", tables.starts.as_slice())?;
-    say_table(out, "firsts", tables.firsts.as_slice())?;
-    say_table(out, "targets", tables.targets.as_slice())
+    say_table(out, "looks", tables.looks.as_slice(), |look| look.marks)?;
+    say_table(
+        out,
+        "starts",
+        tables.starts.as_slice(),
+        |start| u32::from(*start),
+    )?;
+    say_table(out, "firsts", tables.firsts.as_slice(), |first| *first)?;
+    say_table(out, "targets", tables.targets.as_slice(), |target| *target)
 }
 
 // Appends the refusal of a buffer of n dashes for a map, and what the buffer then holds.
