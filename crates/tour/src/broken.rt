@@ -14,16 +14,19 @@ pub(crate) fn too_many_looks(rt: &HostRuntime) -> io::Result<()> {
     let looks = [SwitchLook { marks: 0 }; 4097];
     let starts = [0; 4097];
     let firsts = [0; 4098];
-    print!(rt; "4097 looks. ")?;
-    became(rt, &ListedMap::new(&looks, &starts, &firsts, &[]))
+    became(
+        rt,
+        "4097 looks.",
+        &ListedMap::new(&looks, &starts, &firsts, &[]),
+    )
 }
 
 // A start byte left out.
 pub(crate) fn wrong_lengths(rt: &HostRuntime) -> io::Result<()> {
     let rig = worked_example();
-    print!(rt; "Four looks and three start bytes. ")?;
     became(
         rt,
+        "Four looks and three start bytes.",
         &ListedMap::new(&rig.looks, &[1, 0, 0], &rig.firsts, &rig.targets),
     )
 }
@@ -31,9 +34,9 @@ pub(crate) fn wrong_lengths(rt: &HostRuntime) -> io::Result<()> {
 // A first below the one before it.
 pub(crate) fn wrong_first(rt: &HostRuntime) -> io::Result<()> {
     let rig = worked_example();
-    print!(rt; "Firsts 0 3 1 4 4. ")?;
     became(
         rt,
+        "Firsts 0 3 1 4 4.",
         &ListedMap::new(&rig.looks, &rig.starts, &[0, 3, 1, 4, 4], &rig.targets),
     )
 }
@@ -41,9 +44,9 @@ pub(crate) fn wrong_first(rt: &HostRuntime) -> io::Result<()> {
 // A target past the last state.
 pub(crate) fn wrong_target(rt: &HostRuntime) -> io::Result<()> {
     let rig = worked_example();
-    print!(rt; "Targets 1 2 4 0. ")?;
     became(
         rt,
+        "Targets 1 2 4 0.",
         &ListedMap::new(&rig.looks, &rig.starts, &rig.firsts, &[1, 2, 4, 0]),
     )
 }
@@ -51,9 +54,9 @@ pub(crate) fn wrong_target(rt: &HostRuntime) -> io::Result<()> {
 // One switch too many.
 pub(crate) fn wrong_switch_count(rt: &HostRuntime) -> io::Result<()> {
     let rig = worked_example();
-    print!(rt; "13 switches. ")?;
     became(
         rt,
+        "13 switches.",
         &SwitchMap::new(
             Panel {
                 bits: 13,
@@ -67,21 +70,27 @@ pub(crate) fn wrong_switch_count(rt: &HostRuntime) -> io::Result<()> {
 // One command too many.
 pub(crate) fn too_many_commands(rt: &HostRuntime) -> io::Result<()> {
     let rig = worked_example();
-    print!(rt; "33 commands. ")?;
-    became(rt, &SwitchMap::new(rig.panel, &[rig.commands[0]; 33]))
+    became(
+        rt,
+        "33 commands.",
+        &SwitchMap::new(rig.panel, &[rig.commands[0]; 33]),
+    )
 }
 
 // A command that turns switch 1 both on and off.
 pub(crate) fn wrong_mask(rt: &HostRuntime) -> io::Result<()> {
     let rig = worked_example();
-    print!(rt; "A command that turns switch 1 both on and off. ")?;
     let both = Command {
         need_on: 0,
         need_off: 0,
         turn_on: 2,
         turn_off: 2,
     };
-    became(rt, &SwitchMap::new(rig.panel, &[both]))
+    became(
+        rt,
+        "A command that turns switch 1 both on and off.",
+        &SwitchMap::new(rig.panel, &[both]),
+    )
 }
 
 // Twelve switches beside twelve.
@@ -92,9 +101,9 @@ pub(crate) fn too_many_states(rt: &HostRuntime) -> io::Result<()> {
         start_on: 0,
         start_off: 0,
     };
-    print!(rt; "Twelve switches beside twelve. ")?;
     became(
         rt,
+        "Twelve switches beside twelve.",
         &JointMap::new(SwitchMap::new(panel, &[]), SwitchMap::new(panel, &[])),
     )
 }
@@ -103,8 +112,11 @@ pub(crate) fn too_many_states(rt: &HostRuntime) -> io::Result<()> {
 pub(crate) fn lists_too_long(rt: &HostRuntime) -> io::Result<()> {
     let looks = [SwitchLook { marks: 0 }];
     let targets = [0; 182];
-    print!(rt; "A list of 182 entries beside one of 182. ")?;
     let one = ListedMap::new(&looks, &[1], &[0, 182], &targets);
     let other = ListedMap::new(&looks, &[1], &[0, 182], &targets);
-    became(rt, &JointMap::new(one, other))
+    became(
+        rt,
+        "A list of 182 entries beside one of 182.",
+        &JointMap::new(one, other),
+    )
 }

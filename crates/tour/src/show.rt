@@ -82,8 +82,9 @@ pub(crate) fn walk<M: Map>(rt: &HostRuntime, map: &M, s: u32) -> io::Result<()> 
     println!(rt; ", and so on.")
 }
 
-// What became of what a map was to be made of: its size, or its refusal, with the entry that this carries, if any.
-pub(crate) fn became<M: Map + Made>(rt: &HostRuntime, map: &M) -> io::Result<()> {
+// What a map was to be made of, and what became of it: its size, or its refusal, with the entry that this carries, if any.
+pub(crate) fn became<M: Map + Made>(rt: &HostRuntime, what: &str, map: &M) -> io::Result<()> {
+    print!(rt; "{what} ")?;
     let Some(fault) = map.fault() else {
         return made(rt, map);
     };
