@@ -37,6 +37,27 @@ module _ {k : Structure} {A B : ℕ → Type 0} where
     one_more h w (inl x) e off = inl (omega (arith, x.0), x.1)
     one_more h w (inr x) e off = inr (x.0, still_longer formed d i h x.1 (λ a t m l. off (sym e ∙ x.0, a, (t, m, shows t (formed.targets i t h m) l))) each)
 
+    -- nothing of round d has the entry d + 1
+    not_yet : (s w : ℕ) → Known k A B d s w → w ≡ d + 1 → ⊥
+    not_yet s w (inl x) e = omega (arith, x.0)
+    not_yet s w (inr x) e = omega (arith, x.0)
+
+    -- a state that is not in A, one round on
+    off_more : (s w : ℕ) → s < k.size → (A s → ⊥) → Known k A B d s w → Known k A B (d + 1) s w
+    off_more s w h off (inl x) = inl (omega (arith, x.0), x.1)
+    off_more s w h off (inr x) = inr (x.0, still_longer formed d s h x.1 (λ a t m l. off a) each)
+
+    -- no state from i on is in A: the sweep is done
+    pub sweep_past : ((s : ℕ) → i ≤ s → s < k.size → A s → ⊥) → Swept k A B d k.size before work found
+    sweep_past off = record {
+      sized = sweep.sized;
+      done = λ s l b. ⊎_elim (λ m. sweep.done s m b) (λ m. off_more s _ b (off s m b) (sweep.todo s m b)) (cases_lt s i);
+      todo = λ s l b. absurd (omega arith);
+      past = sweep.past;
+      some = sweep.some;
+      none = λ f s l b. ⊎_elim (λ m. sweep.none f s m b) (λ m. not_yet s _ (sweep.todo s m b)) (cases_lt s i);
+    }
+
     -- state i is not due
     pub sweep_on : i < k.size → (Due k A work d i → ⊥) → Swept k A B d (i + 1) before work found
     sweep_on h off = record {
@@ -49,13 +70,10 @@ module _ {k : Structure} {A B : ℕ → Type 0} where
       past = sweep.past;
       some = sweep.some;
       none = λ f s l b. ⊎_elim
-          (λ e q. new _ (sweep.todo i (omega arith) h) (ap (λ j. get_or work j 0) (sym e) ∙ q))
+          (λ e q. not_yet i _ (sweep.todo i (omega arith) h) (ap (λ j. get_or work j 0) (sym e) ∙ q))
           (λ ne. sweep.none f s (omega arith) b)
           (cases_eq s i);
-    } where
-      new : (w : ℕ) → Known k A B d i w → w ≡ d + 1 → ⊥
-      new w (inl x) e = omega (arith, x.0)
-      new w (inr x) e = omega (arith, x.0)
+    }
 
     -- a state that is due has the length d + 1
     due_length : i < k.size → (w : ℕ) → Known k A B d i w → w ≡ 4294967295 → A i → StepsTo k work d i → Length k A B i (d + 1)

@@ -1,14 +1,16 @@
 -- One bit of a word: read, kept, turned. Assumes nothing.
-use Rattle.std.proofs.Common.{◌≡◌, ℕ, zero, suc, ◌/◌, ◌%◌, ◌^◌, Bool, true, false, cond, not, eqb, sym, refl, ap, ◌∙◌, ⊎_elim, arith}
+use Rattle.std.proofs.Common.{◌≡◌, ℕ, zero, suc, ◌≤◌, ◌/◌, ◌%◌, ◌^◌, Bool, true, false, List, length, cond, not, eqb, sym, refl, ap, ◌∙◌, ⊎_elim, arith}
 use mathlib.Core.Bool.{beq}
 use Prim.Native.Nat.compare
 use native.Mathlib.Nat.{pow-succ'}
 use lib.Bits.{bit_and, bit_xor}
 use lib.Dec.{compare_is_eq}
 use Rattle.std.proofs.lemmas.Nat.{and_mask}
-use Rattle.std.proofs.lemmas.Bool.{eq-eqb, ne_eqb, cond-true, cond-false, cases_eq}
+use Rattle.std.proofs.lemmas.List.{get_or_past}
+use Rattle.std.proofs.lemmas.Bool.{eq-eqb, ne_eqb, cond-true, cond-false, cases_eq, true≢false}
 use Rattle.look.specs.Bits.{bit_on}
 use Rattle.look.proofs.Bits.{bit_on-xor, half, lowest, none_of_zero}
+use Rattle.lengths.specs.Sheets.{by_sheet}
 
 -- 2 to the r has bit r alone
 one_bit : (r j : ℕ) → bit_on (2 ^ r) j ≡ eqb j r
@@ -32,3 +34,7 @@ beq_false true true e = sym e
 beq_false true false e = refl
 beq_false false true e = refl
 beq_false false false e = e
+
+-- a state without a word has no label
+pub no_word : (sheet : List ℕ) (r s : ℕ) → length sheet ≤ s → by_sheet sheet r s → ⊥
+no_word sheet r s h on = true≢false (sym on ∙ ap (λ word. bit_on word r) (get_or_past sheet s 0 h) ∙ none_of_zero r)

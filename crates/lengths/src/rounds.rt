@@ -7,8 +7,8 @@ ghost use Rattle.map.specs.Meaning.{structure};
 ghost use Rattle.stl.specs.Structures.{Move};
 ghost use Rattle.stl.specs.Until.{Greatest};
 
-use crate::labels::labelled;
 use look::Look;
+use look::word::is_on;
 use map::Map;
 use map::read::first_target;
 
@@ -34,43 +34,50 @@ pub struct Until<'a, M> {
 }
 
 impl<'a, M: Map> Until<'a, M> {
-    // Whether s gets the length d + 1: it has none yet, it has label a, and a move leads to a state of length d.
+    // Whether s, which has a word in the sheet, gets the length d + 1: it has none yet, it has label a, and a move leads to a state of length d.
     fn due(&self, s: u32, work: &[u32], d: u32) -> bool
         requires state { s < (M.meaning self.now.map.now).size }
         requires entries { (M.meaning self.now.map.now).size ≤ length work.now }
+        requires word { s < length self.now.sheet.now }
         ensures { Decides result (Due (structure M.L.Look.sign (M.meaning self.now.map.now)) (by_sheet self.now.sheet.now self.now.a) work.now d s) }
     {
         work[s as usize] == NONE
-            && labelled(self.sheet, self.a, s)
+            && is_on(self.sheet[s as usize], self.a)
             && step_to(self.map, s, work, d).is_some()
     }
 
-    // Round 0: length 0 for the states with label b. Written by index: the state is wanted beside its entry, and of what is written through
-    // `iter_mut().enumerate()` a proof knows nothing.
+    // Round 0: length 0 for the states with label b; those past the sheet have no label. Written by index: the state is wanted beside its
+    // entry, and of what is written through `iter_mut().enumerate()` a proof knows nothing.
     fn first_round(&self, work: &mut [u32])
         requires { (M.meaning self.now.map.now).size ≤ length work.old }
         ensures { Begun (structure M.L.Look.sign (M.meaning self.now.map.now)) (by_sheet self.now.sheet.now self.now.a) (by_sheet self.now.sheet.now self.now.b) (M.meaning self.now.map.now).size work.old work.new }
     {
-        for s in 0..self.map.size() {
-            work[s as usize] = if labelled(self.sheet, self.b, s) {
-                0
-            } else {
-                NONE
-            };
+        let Until { map, sheet, b, .. } = *self;
+        let size = map.size() as usize;
+        let words = size.min(sheet.len());
+        for s in 0..words {
+            work[s] = if is_on(sheet[s], b) { 0 } else { NONE };
+        }
+        for s in words..size {
+            work[s] = NONE;
         }
     }
 
-    // Round d + 1: length d + 1 for the states that are due. Answers whether there was one. By index: `due` reads the table in the same
-    // loop.
+    // Round d + 1: length d + 1 for the states that are due, all of which have a word in the sheet. Answers whether there was one. By
+    // index: `due` reads the table in the same loop.
     fn one_round(&self, d: u32, work: &mut [u32]) -> bool
         requires entries { (M.meaning self.now.map.now).size ≤ length work.old }
         requires small { d ≤ 4096 }
         requires round { Round (structure M.L.Look.sign (M.meaning self.now.map.now)) (by_sheet self.now.sheet.now self.now.a) (by_sheet self.now.sheet.now self.now.b) d work.old }
         ensures { Swept (structure M.L.Look.sign (M.meaning self.now.map.now)) (by_sheet self.now.sheet.now self.now.a) (by_sheet self.now.sheet.now self.now.b) d (M.meaning self.now.map.now).size work.old work.new result }
     {
+        // a copy, which the loop need not read again after each write
+        let Until { map, sheet, a, b } = *self;
+        let until = Until { map, sheet, a, b };
+        let words = (map.size() as usize).min(sheet.len()) as u32;
         let mut found = false;
-        for s in 0..self.map.size() {
-            if self.due(s, work, d) {
+        for s in 0..words {
+            if until.due(s, work, d) {
                 work[s as usize] = d + 1;
                 found = true;
             }

@@ -1,9 +1,12 @@
 -- The bits of a word, and the word of its bits. Assumes nothing.
-use Rattle.std.proofs.Common.{◌≡◌, ℕ, zero, suc, ◌+◌, ◌-◌, ◌/◌, ◌%◌, ◌^◌, ◌<◌, ◌≤◌, Bool, true, false, cond, not, ◌&&◌, ◌||◌, eqb, ltb, ◌⊎◌, sym, refl, ap, ◌∙◌, subst, inl, inr, ⊎_elim, mod-eq_of_lt, div-one, arith, pow_mono}
+use Rattle.std.proofs.Common.{◌≡◌, ℕ, zero, suc, ◌+◌, ◌-◌, ◌*◌, ◌/◌, ◌%◌, ◌^◌, ◌<◌, ◌≤◌, Bool, true, false, cond, not, ◌&&◌, ◌||◌, eqb, ltb, ◌⊎◌, sym, refl, ap, ◌∙◌, subst, inl, inr, ⊎_elim, Option, Some, None, mod-eq_of_lt, div-one, arith, pow_mono}
 use native.Mathlib.Nat.{zero-div, div-eq_of_lt, div-div-eq-div-mul, pow-succ'}
 use lib.Bits.{bit_and, bit_or, bit_xor, xor_add_and}
-use Rattle.std.proofs.lemmas.Nat.{and_mask, and_shr, and_mod, or_shr, or_mod, xor_shr, xor_mod, mod_below, pow_pos}
-use Rattle.std.proofs.lemmas.Bool.{cases_lt, lt-ltb, le-ltb, eqb-true, eqb-false, cond-true}
+use Rattle.std.specs.Prelude.{SomeIff, unwrap_or}
+use Rattle.std.specs.Int.Bits.{and_zero_r}
+use Rattle.std.proofs.lemmas.Nat.{and_mask, and_shr, and_mod, or_shr, or_mod, xor_shr, xor_mod, mod_below, one_shl, pow_pos}
+use Rattle.std.proofs.lemmas.Nat.Bits.{and_pow}
+use Rattle.std.proofs.lemmas.Bool.{cases_lt, lt-ltb, le-ltb, ne_eqb, eqb-true, eqb-false, cond-true}
 use Rattle.look.specs.Bits.{bit_on}
 
 -- bit j of a word
@@ -93,3 +96,16 @@ bit_within n word j h =
     (λ l. sym (ap (λ b. b && bit_on word j) (lt-ltb j n l)))
     (λ l. none_high n word j h l ∙ sym (ap (λ b. b && bit_on word j) (le-ltb j n l)))
     (cases_lt j n)
+
+-- a word masked by bit j alone is 0 where that bit is off
+masked : (word j : ℕ) → not (eqb (bit_and word (2 ^ j)) 0) ≡ bit_on word j
+masked word j =
+    ap (λ n. not (eqb n 0)) (and_pow word j) ∙ ⊎_elim
+    (λ off. let none : bit word j * 2 ^ j ≡ 0 = ap (λ b. b * 2 ^ j) off ∙ omega arith in ap (λ n. not (eqb n 0)) none ∙ sym (ap (λ b. eqb b 1) off))
+    (λ on. ap (λ b. not (eqb (b * 2 ^ j) 0)) on ∙ ap not (ne_eqb (1 * 2 ^ j) 0 (λ e. omega (arith, pow_pos j))) ∙ sym (ap (λ b. eqb b 1) on))
+    (bit_is word j)
+
+-- the mask of a bit, 0 where the word has no such bit
+pub masked_within : (word j : ℕ) (mask : Option ℕ) → word < 2 ^ 64 → SomeIff mask (j < 64) ((1 * 2 ^ j) % 2 ^ 64) → not (eqb (bit_and word (unwrap_or mask 0)) 0) ≡ bit_on word j
+masked_within word j None h out = ap (λ n. not (eqb n 0)) (and_zero_r word) ∙ sym (none_high 64 word j h (omega (arith, out)))
+masked_within word j (Some m) h is = ap (λ n. not (eqb (bit_and word n) 0)) (is.1 ∙ one_shl j 64 is.0) ∙ masked word j

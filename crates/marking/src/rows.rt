@@ -6,23 +6,26 @@ ghost use Rattle.marking.specs.Timed.{Timed};
 ghost use Rattle.stl.specs.Rows.{Satisfied, named, Reach};
 ghost use Rattle.stl.specs.Structures.{Move};
 
-use lengths::labels::{labelled, with_bit};
+use lengths::labels::with_bit;
 use lengths::rounds::{NONE, Until};
 use look::Look;
+use look::word::is_on;
 use map::Map;
 use map::read::{first_target, sign_at};
 use stl::row::Row;
 
 // Whether a move from s leads to a state with the label of row a.
 fn some_move<M: Map>(map: &M, sheet: &[u64], a: u32, s: u32) -> bool
+    requires words { (M.meaning map.now).size ≤ length sheet.now }
     ensures { Decides result ((t : ℕ) × Move (structure M.L.Look.sign (M.meaning map.now)) s t × by_sheet sheet.now a t) }
 {
-    first_target(map, s, |t| labelled(sheet, a, t)).is_some()
+    first_target(map, s, |t| is_on(sheet[t as usize], a)).is_some()
 }
 
 // Whether the row is satisfied at s. An until is read off the table of its lengths.
 fn satisfied<M: Map>(map: &M, sheet: &[u64], work: &[u32], row: Row, s: u32) -> bool
     requires state { s < (M.meaning map.now).size }
+    requires words { (M.meaning map.now).size ≤ length sheet.now }
     requires entries { (M.meaning map.now).size ≤ length work.now }
     requires timed { Timed (structure M.L.Look.sign (M.meaning map.now)) sheet.now work.now row }
     ensures { Decides result (Satisfied (structure M.L.Look.sign (M.meaning map.now)) (by_sheet sheet.now) row s) }
@@ -30,8 +33,8 @@ fn satisfied<M: Map>(map: &M, sheet: &[u64], work: &[u32], row: Row, s: u32) -> 
     match row {
         Row::True => true,
         Row::Sign(n) => sign_at(map, s, n),
-        Row::Not(a) => !labelled(sheet, a, s),
-        Row::Or(a, b) => labelled(sheet, a, s) || labelled(sheet, b, s),
+        Row::Not(a) => !is_on(sheet[s as usize], a),
+        Row::Or(a, b) => is_on(sheet[s as usize], a) || is_on(sheet[s as usize], b),
         Row::Next(a) => some_move(map, sheet, a, s),
         Row::Until(_, _) => work[s as usize] != NONE,
     }

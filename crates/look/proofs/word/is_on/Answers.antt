@@ -1,7 +1,7 @@
-use Rattle.std.proofs.Common.{sym, ◌∙◌, arith}
-use Rattle.std.proofs.lemmas.Bool.{le-ltb}
-use Rattle.look.proofs.Bits.{none_high}
+use Rattle.std.proofs.Common.{not, eqb, ap, ◌∙◌, arith}
+use lib.Bits.{bit_and}
+use Rattle.look.proofs.Bits.{masked_within}
 use Rattle.look.proofs.word.is_on.Goals as goal
 
-pub returns-else-j-lt64 : goal.returns-else-j-lt64
-returns-else-j-lt64 c = le-ltb c.args.j 64 c.if-j-lt64.false ∙ sym (none_high 64 c.args.word c.args.j (omega arith) c.if-j-lt64.false)
+pub returns : goal.returns
+returns c = ap (λ mask. not (eqb (bit_and c.args.word mask) 0)) c.unwrap_or.ensures ∙ masked_within c.args.word c.args.j _ (omega arith) c.checked_shl.ensures

@@ -8,6 +8,7 @@ satisfied-b-requires g c =
     let k = structure g.M.L.Look.sign (g.M.Map.meaning c.args.map.now) in
     record {
       state = omega arith;
+      words = omega arith;
       entries = c.requires.entries;
       timed = subst (λ T. T) (sym (timed_same k c.loop-s.sheet c.args.sheet.now c.args.r c.loop-s.invariant.other c.args.row c.args.work.now c.requires.earlier)) c.requires.timed;
     }
