@@ -1,6 +1,6 @@
 // Whole texts, saved into a lent buffer.
 ghost use Rattle.std.specs.Prelude.{ℕ, List, OnOk};
-ghost use Rattle.writing.specs.Saves.{Saved};
+ghost use Rattle.writing.specs.Saves.{PutAt, Saved};
 ghost use Rattle.writing.specs.Sinks.{Put};
 
 use crate::fault::SaveFault;
@@ -29,4 +29,17 @@ pub fn save<T: Text>(text: &T, out: &mut [u8]) -> Result<usize, SaveFault>
     let length = out.len() - counter.left;
     text.put_into(&mut Buffer { out, at: 0 })?;
     Ok(length)
+}
+
+// Puts bytes at a place of a buffer: the place after them. There is no room where they, or the place, lie past its end, and then nothing
+// is put.
+pub fn put_bytes(out: &mut [u8], at: usize, bytes: &[u8]) -> Result<usize, SaveFault>
+    ensures { PutAt out.old at bytes.now out.new result }
+{
+    if at > out.len() {
+        return Err(SaveFault::NoRoom);
+    }
+    let mut buffer = Buffer { out, at };
+    buffer.put(bytes)?;
+    Ok(buffer.at)
 }
