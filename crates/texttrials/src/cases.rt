@@ -11,10 +11,13 @@ use std::io::Write;
 // `check MAP RULES`: what the checker writes.
 fn run_check(heap: Global, out: &mut Vec<u8>, rest: &str) -> io::Result<()> {
     let (map, rules) = take_word(rest);
-    let map = decode(heap, map)?;
-    let rules = decode(heap, rules)?;
     let mut bytes = [0; 1024];
-    match check(map.as_slice(), rules.as_slice(), &mut bytes) {
+    let written = check(
+        decode(heap, map).as_slice(),
+        decode(heap, rules).as_slice(),
+        &mut bytes,
+    );
+    match written {
         Ok(n) => put_coded(out, &bytes[..n]),
         Err(_) => Ok(()),
     }
@@ -23,21 +26,23 @@ fn run_check(heap: Global, out: &mut Vec<u8>, rest: &str) -> io::Result<()> {
 // Appends the line of what a case gives.
 fn run_case(heap: Global, out: &mut Vec<u8>, line: &str) -> io::Result<()> {
     let (kind, rest) = take_word(line);
-    match kind {
+    // what finds no memory is left out
+    let _ = match kind {
         "check" => run_check(heap, out, rest),
         "map" => run_map(heap, out, rest),
         "rules" => run_rules(heap, out, rest),
         "save" => run_save(heap, out, rest),
         _ => write!(out, "no such case"),
-    }?;
+    };
     writeln!(out)
 }
 
 // What the cases give, a line for each.
-pub(crate) fn run_cases(heap: Global, cases: &str) -> io::Result<Vec<u8>> {
+pub(crate) fn run_cases(heap: Global, cases: &str) -> Vec<u8> {
     let mut out = Vec::new(heap);
     for line in cases.lines() {
-        run_case(heap, &mut out, line)?;
+        // what finds no memory is left out
+        let _ = run_case(heap, &mut out, line);
     }
-    Ok(out)
+    out
 }

@@ -15,6 +15,6 @@ use std::io::Write;
 fn main(rt: HostRuntime) -> io::Result<()> {
     let heap = rt.alloc();
     let cases = io::read_to_string(heap, rt.stdin())?;
-    let said = run_cases(heap, cases.as_str())?;
+    let said = run_cases(heap, cases.as_str());
     rt.stdout().write_all(said.as_slice())
 }

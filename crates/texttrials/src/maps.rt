@@ -85,9 +85,8 @@ pub(crate) fn run_map(heap: Global, out: &mut Vec<u8>, rest: &str) -> io::Result
     let (starts, rest) = take_number(rest);
     let (firsts, rest) = take_number(rest);
     let (targets, text) = take_number(rest);
-    let text = decode(heap, text)?;
     let mut tables = Tables::new(heap, looks, starts, firsts, targets)?;
-    match tables.read(text.as_slice()) {
+    match tables.read(decode(heap, text).as_slice()) {
         Ok(MapSize { states, moves }) => write!(out, "ok {states} {moves}")?,
         Err(fault) => write!(out, "{}", Said(fault))?,
     }
@@ -128,9 +127,8 @@ fn say_map<M: Map<L = SwitchLook>>(heap: Global, out: &mut Vec<u8>, map: &M) -> 
 
 // `save TEXT`: the map that the text gives, written out again.
 pub(crate) fn run_save(heap: Global, out: &mut Vec<u8>, text: &str) -> io::Result<()> {
-    let text = decode(heap, text)?;
     let mut tables = Tables::new(heap, 4096, 4096, 4097, 15_000)?;
-    match tables.read(text.as_slice()) {
+    match tables.read(decode(heap, text).as_slice()) {
         Ok(size) => say_map(heap, out, &tables.map(size)),
         Err(fault) => write!(out, "{}", Said(fault)),
     }

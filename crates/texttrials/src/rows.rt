@@ -31,8 +31,8 @@ fn say_read(
 // `rules WORDS TEXT`: what comes of reading the text into a session on a map of two states, lent a sheet of so many words.
 pub(crate) fn run_rules(heap: Global, out: &mut Vec<u8>, rest: &str) -> io::Result<()> {
     let (words, text) = take_number(rest);
-    let text = decode(heap, text)?;
     let sheet = vec![in heap; 0; words]?;
+    let text = decode(heap, text);
     let looks = [SwitchLook { marks: 1 }, SwitchLook { marks: 2 }];
     let map = ListedMap::new(&looks, &[1, 0], &[0, 1, 2], &[1, 0]);
     match Session::open(&map, &mut [0; 2]) {

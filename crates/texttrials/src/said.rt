@@ -1,4 +1,4 @@
-// What a case gives, in words.
+// What a case gives, in words. What finds no memory is left out, and the line is then not the one that should be.
 use reader::fault::TextFault;
 use std::{fmt, io};
 
