@@ -10,7 +10,7 @@ pub(crate) fn count_open(commands: &[Command], s: u32) -> u32
     requires { length commands.now ≤ 32 }
     ensures { result ≡ length (targets_of commands.now s) }
 {
-    commands.iter().filter(|c| c.is_open(s)).count() as u32
+    commands.iter().map(|c| u32::from(c.is_open(s))).sum()
 }
 
 // The target of the open command at place k among those that are open at s.
