@@ -11,7 +11,7 @@ pub enum SwitchFault {
     WrongSwitchCount,
     #[error("there are more than 32 commands")]
     TooManyCommands,
-    // a mask has a switch that is not there
+    // a mask has a switch that is not there, or a command turns one switch both on and off
     #[error("a mask names no switch, or a command turns one both on and off")]
     WrongMask,
 }
