@@ -1,8 +1,6 @@
 -- Lines as pieces of a text. Assumes nothing.
-use Rattle.std.proofs.Common.{◌≡◌, ℕ, zero, suc, ◌<◌, ◌≤◌, List, [], ◌∷◌, ◌++◌, map, length, get_or, take, IfSome, Some, None, Option, sym, refl, ap, ◌∙◌, subst, arith, take-suc}
+use Rattle.std.proofs.Common.{◌≡◌, ℕ, zero, suc, ◌<◌, ◌≤◌, List, [], ◌∷◌, ◌++◌, map, length, get_or, take, sym, refl, ap, ◌∙◌, subst, arith, take-suc}
 use Rattle.std.proofs.lemmas.List.{append_assoc, map-append, take_all}
-use Rattle.std.proofs.lemmas.Option.{slice_get-get_or}
-use Rattle.std.specs.List.{slice_get}
 use Rattle.look.specs.declared.switch.SwitchLook.{SwitchLook}
 use Rattle.map.specs.Meaning.{Meaning}
 use Rattle.reader.specs.Texts.{written_text}
@@ -41,5 +39,3 @@ all_lines f d xs = some_lines f d xs (length xs) (omega arith) ∙ ap (λ l. wri
 pub all_states : (m : Meaning SwitchLook) (n : ℕ) → pieces (state_at m) n ≡ written_text (first_states m n)
 all_states m zero = refl
 all_states m (suc n) = ap (λ t. t ++ state_at m n) (all_states m n) ∙ sym (text_append (first_states m n) (lines_of m n))
-
--- what stands at a place of a list

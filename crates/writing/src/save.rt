@@ -1,4 +1,4 @@
-// Whole texts, saved into a lent buffer.
+// Whole texts saved into a lent buffer, and bytes put at a place of one.
 ghost use Rattle.std.specs.Prelude.{ℕ, List, OnOk};
 ghost use Rattle.writing.specs.Saves.{PutAt, Saved};
 ghost use Rattle.writing.specs.Sinks.{Put};
