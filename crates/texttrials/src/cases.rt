@@ -2,14 +2,12 @@
 use crate::coded::{decode, take_word};
 use crate::maps::{run_map, run_save};
 use crate::rows::run_rules;
-use crate::said::put_coded;
+use crate::said::{put_coded, say};
 use checking::check::check;
 use std::alloc::Global;
-use std::io;
-use std::io::Write;
 
 // `check MAP RULES`: what the checker writes.
-fn run_check(heap: Global, out: &mut Vec<u8>, rest: &str) -> io::Result<()> {
+fn run_check(heap: Global, out: &mut Vec<u8>, rest: &str) {
     let (map, rules) = take_word(rest);
     let mut bytes = [0; 1024];
     let written = check(
@@ -17,32 +15,28 @@ fn run_check(heap: Global, out: &mut Vec<u8>, rest: &str) -> io::Result<()> {
         decode(heap, rules).as_slice(),
         &mut bytes,
     );
-    match written {
-        Ok(n) => put_coded(out, &bytes[..n]),
-        Err(_) => Ok(()),
-    }
+    put_coded(out, &bytes[..written.unwrap_or(0)]);
 }
 
 // Appends the line of what a case gives.
-fn run_case(heap: Global, out: &mut Vec<u8>, line: &str) -> io::Result<()> {
+fn run_case(heap: Global, out: &mut Vec<u8>, line: &str) {
     let (kind, rest) = take_word(line);
     // what finds no memory is left out
     let _ = match kind {
-        "check" => run_check(heap, out, rest),
+        "check" => Ok(run_check(heap, out, rest)),
         "map" => run_map(heap, out, rest),
         "rules" => run_rules(heap, out, rest),
         "save" => run_save(heap, out, rest),
-        _ => write!(out, "no such case"),
+        _ => Ok(say(out, "no such case")),
     };
-    writeln!(out)
+    say(out, "\n");
 }
 
 // What the cases give, a line for each.
 pub(crate) fn run_cases(heap: Global, cases: &str) -> Vec<u8> {
     let mut out = Vec::new(heap);
     for line in cases.lines() {
-        // what finds no memory is left out
-        let _ = run_case(heap, &mut out, line);
+        run_case(heap, &mut out, line);
     }
     out
 }

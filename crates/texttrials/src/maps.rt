@@ -1,6 +1,6 @@
 // Cases of map texts.
 use crate::coded::{decode, take_number};
-use crate::said::{Said, put_coded};
+use crate::said::{put_coded, say, say_fault};
 use listed::table::ListedMap;
 use look::switch::SwitchLook;
 use map::Map;
@@ -11,8 +11,6 @@ use maptext::tables::MapTables;
 use reader::fault::TextFault;
 use saving::maps::write_map;
 use std::alloc::{AllocError, Global};
-use std::io;
-use std::io::Write;
 
 // The tables that a map text is read into.
 #[derive(Drop)]
@@ -63,42 +61,41 @@ impl Tables {
 }
 
 // Appends the name of a table, and its first sixteen entries, each as a number.
-fn say_table<T, F: Fn(&T) -> u32>(
-    out: &mut Vec<u8>,
-    name: &str,
-    table: &[T],
-    number: F,
-) -> io::Result<()>
+fn say_table<T, F: Fn(&T) -> u32>(out: &mut Vec<u8>, name: &str, table: &[T], number: F)
     requires { F.IsAlwaysCallable number }
 {
-    write!(out, " {name}")?;
+    say(out, format_args!(" {name}"));
     for entry in table.iter().take(16) {
         let n = number(entry);
-        write!(out, " {n}")?;
+        say(out, format_args!(" {n}"));
     }
-    Ok(())
 }
 
 // `map LOOKS STARTS FIRSTS TARGETS TEXT`: what reading the text into tables of these lengths answers, and what they hold then.
-pub(crate) fn run_map(heap: Global, out: &mut Vec<u8>, rest: &str) -> io::Result<()> {
+pub(crate) fn run_map(heap: Global, out: &mut Vec<u8>, rest: &str) -> Result<(), AllocError> {
     let (looks, rest) = take_number(rest);
     let (starts, rest) = take_number(rest);
     let (firsts, rest) = take_number(rest);
     let (targets, text) = take_number(rest);
     let mut tables = Tables::new(heap, looks, starts, firsts, targets)?;
     match tables.read(decode(heap, text).as_slice()) {
-        Ok(MapSize { states, moves }) => write!(out, "ok {states} {moves}")?,
-        Err(fault) => write!(out, "{}", Said(fault))?,
+        Ok(MapSize { states, moves }) => {
+            say(out, "ok");
+            say(out, format_args!(" {states}"));
+            say(out, format_args!(" {moves}"));
+        }
+        Err(fault) => say_fault(out, fault),
     }
-    say_table(out, "looks", tables.looks.as_slice(), |look| look.marks)?;
+    say_table(out, "looks", tables.looks.as_slice(), |look| look.marks);
     say_table(
         out,
         "starts",
         tables.starts.as_slice(),
         |start| u32::from(*start),
-    )?;
-    say_table(out, "firsts", tables.firsts.as_slice(), |first| *first)?;
-    say_table(out, "targets", tables.targets.as_slice(), |target| *target)
+    );
+    say_table(out, "firsts", tables.firsts.as_slice(), |first| *first);
+    say_table(out, "targets", tables.targets.as_slice(), |target| *target);
+    Ok(())
 }
 
 // Appends the refusal of a buffer of n dashes for a map, and what the buffer then holds.
@@ -107,29 +104,34 @@ fn say_refused<M: Map<L = SwitchLook>>(
     out: &mut Vec<u8>,
     map: &M,
     n: usize,
-) -> io::Result<()> {
+) -> Result<(), AllocError> {
     let mut bytes = vec![in heap; b'-'; n]?;
     if let Err(fault) = write_map(map, bytes.as_mut_slice()) {
         let number = fault.number();
-        write!(out, " {number}")?;
+        say(out, format_args!(" {number}"));
     }
-    write!(out, " ")?;
-    out.write_all(bytes.as_slice())
+    say(out, " ");
+    let _ = out.extend_from_slice(bytes.as_slice());
+    Ok(())
 }
 
 // Appends the text of a map, and what comes of a buffer that is one byte too short for it.
-fn say_map<M: Map<L = SwitchLook>>(heap: Global, out: &mut Vec<u8>, map: &M) -> io::Result<()> {
+fn say_map<M: Map<L = SwitchLook>>(
+    heap: Global,
+    out: &mut Vec<u8>,
+    map: &M,
+) -> Result<(), AllocError> {
     let mut bytes = [0; 4096];
     let n = write_map(map, &mut bytes).unwrap_or(0);
-    put_coded(out, &bytes[..n])?;
+    put_coded(out, &bytes[..n]);
     say_refused(heap, out, map, n.saturating_sub(1))
 }
 
 // `save TEXT`: the map that the text gives, written out again.
-pub(crate) fn run_save(heap: Global, out: &mut Vec<u8>, text: &str) -> io::Result<()> {
+pub(crate) fn run_save(heap: Global, out: &mut Vec<u8>, text: &str) -> Result<(), AllocError> {
     let mut tables = Tables::new(heap, 4096, 4096, 4097, 15_000)?;
     match tables.read(decode(heap, text).as_slice()) {
         Ok(size) => say_map(heap, out, &tables.map(size)),
-        Err(fault) => write!(out, "{}", Said(fault)),
+        Err(fault) => Ok(say_fault(out, fault)),
     }
 }

@@ -1,14 +1,12 @@
 // Cases of rule texts.
 use crate::coded::{decode, take_number};
-use crate::said::{Said, put_coded};
+use crate::said::{put_coded, say, say_fault};
 use listed::table::ListedMap;
 use look::switch::SwitchLook;
 use ruletext::read::read_rules;
 use saving::rows::write_rules;
 use session::held::Session;
-use std::alloc::Global;
-use std::io;
-use std::io::Write;
+use std::alloc::{AllocError, Global};
 
 // Appends what reading a rule text into a session on the map answers, and the rows that the session has then.
 fn say_read(
@@ -17,26 +15,26 @@ fn say_read(
     session: &mut Session,
     map: &ListedMap<'_, SwitchLook>,
     sheet: &[u64],
-) -> io::Result<()> {
+) {
     match read_rules(text, session, map, sheet) {
-        Ok(()) => write!(out, "ok")?,
-        Err(fault) => write!(out, "{}", Said(fault))?,
+        Ok(()) => say(out, "ok"),
+        Err(fault) => say_fault(out, fault),
     }
-    write!(out, " rows:")?;
+    say(out, " rows:");
     let mut bytes = [0; 2048];
     let n = write_rules(&session.rules(), &mut bytes).unwrap_or(0);
-    put_coded(out, &bytes[..n])
+    put_coded(out, &bytes[..n]);
 }
 
 // `rules WORDS TEXT`: what comes of reading the text into a session on a map of two states, lent a sheet of so many words.
-pub(crate) fn run_rules(heap: Global, out: &mut Vec<u8>, rest: &str) -> io::Result<()> {
+pub(crate) fn run_rules(heap: Global, out: &mut Vec<u8>, rest: &str) -> Result<(), AllocError> {
     let (words, text) = take_number(rest);
     let sheet = vec![in heap; 0; words]?;
     let text = decode(heap, text);
     let looks = [SwitchLook { marks: 1 }, SwitchLook { marks: 2 }];
     let map = ListedMap::new(&looks, &[1, 0], &[0, 1, 2], &[1, 0]);
-    match Session::open(&map, &mut [0; 2]) {
-        Ok(mut session) => say_read(out, text.as_slice(), &mut session, &map, sheet.as_slice()),
-        Err(_) => Ok(()),
+    if let Ok(mut session) = Session::open(&map, &mut [0; 2]) {
+        say_read(out, text.as_slice(), &mut session, &map, sheet.as_slice());
     }
+    Ok(())
 }

@@ -1,29 +1,33 @@
 // What a case gives, in words. What finds no memory is left out, and the line is then not the one that should be.
 use reader::fault::TextFault;
-use std::{fmt, io};
+use std::fmt::Display;
+use std::io::Write;
+
+// Appends a word: the whole of it, or nothing where it finds no memory.
+pub(crate) fn say<D: Display + Drop>(out: &mut Vec<u8>, word: D) {
+    let before = out.len();
+    if write!(out, "{word}").is_err() {
+        out.truncate(before);
+    }
+}
 
 // Appends a text, with `|` for byte 9 and `/` for byte 10.
-pub(crate) fn put_coded(out: &mut Vec<u8>, text: &[u8]) -> io::Result<()> {
+pub(crate) fn put_coded(out: &mut Vec<u8>, text: &[u8]) {
     for b in text {
         let sign = match *b {
             9 => b'|',
             10 => b'/',
             other => other,
         };
-        out.push(sign)?;
+        let _ = out.push(sign);
     }
-    Ok(())
 }
 
-// A fault, said by its number, line and field.
-#[derive(Drop)]
-pub(crate) struct Said(pub(crate) TextFault);
-
-impl fmt::Display for Said {
-    fn fmt<W: fmt::Write>(&self, f: &mut fmt::Formatter<W>) -> fmt::Result {
-        let number = self.0.what.number();
-        let line = self.0.line;
-        let field = self.0.what.field();
-        write!(f, "fault {number} {line} {field}")
+// Appends a fault: its number, line and field.
+pub(crate) fn say_fault(out: &mut Vec<u8>, fault: TextFault) {
+    let TextFault { what, line } = fault;
+    say(out, "fault");
+    for n in [u32::from(what.number()), line, what.field()] {
+        say(out, format_args!(" {n}"));
     }
 }
