@@ -132,6 +132,9 @@ pub(crate) fn run_save(heap: Global, out: &mut Vec<u8>, text: &str) -> Result<()
     let mut tables = Tables::new(heap, 4096, 4096, 4097, 15_000)?;
     match tables.read(decode(heap, text).as_slice()) {
         Ok(size) => say_map(heap, out, &tables.map(size)),
-        Err(fault) => Ok(say_fault(out, fault)),
+        Err(fault) => {
+            say_fault(out, fault);
+            Ok(())
+        }
     }
 }
