@@ -1,5 +1,5 @@
 // Whole texts saved into a lent buffer, and bytes put at a place of one.
-ghost use Rattle.std.specs.Prelude.{ℕ, List, OnOk};
+ghost use Rattle.std.specs.Prelude.{◌≡◌, ℕ, List, OnErr, OnOk};
 ghost use Rattle.writing.specs.Saves.{PutAt, Saved};
 ghost use Rattle.writing.specs.Sinks.{Put};
 
@@ -34,7 +34,8 @@ pub fn save<T: Text>(text: &T, out: &mut [u8]) -> Result<usize, SaveFault>
 // Puts bytes at a place of a buffer: the place after them. There is no room where they, or the place, lie past its end, and then nothing
 // is put.
 pub fn put_bytes(out: &mut [u8], at: usize, bytes: &[u8]) -> Result<usize, SaveFault>
-    ensures { PutAt out.old at bytes.now out.new result }
+    ensures put { PutAt out.old at bytes.now out.new result }
+    ensures refused { OnErr result (out.new ≡ out.old) }
 {
     if at > out.len() {
         return Err(SaveFault::NoRoom);
