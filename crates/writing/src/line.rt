@@ -13,7 +13,7 @@ use stl::row::Row;
 use text::line::Line;
 
 // Puts a field that is a number, with byte 9 in front.
-fn put_field<S: Sink>(sink: &mut S, n: u32) -> Result<(), SaveFault>
+pub fn put_field<S: Sink>(sink: &mut S, n: u32) -> Result<(), SaveFault>
     ensures { Put S.room S.puts S.keeps sink.old (9 ∷ written n) result sink.new }
 {
     sink.put(b"\t")?;
