@@ -60,3 +60,31 @@ impl Text for Line {
         }
     }
 }
+
+// A field that is a number, with byte 9 in front.
+#[derive(Clone, Copy)]
+pub struct Field(pub u32);
+
+impl Text for Field {
+    ghost text = { λ f. 9 ∷ written f.0 };
+
+    ghost shown = { λ f. ⊤ };
+
+    fn put_into<S: Sink>(&self, sink: &mut S) -> Result<(), SaveFault> {
+        put_field(sink, self.0)
+    }
+}
+
+// The last field of a line, with byte 9 in front and byte 10 after it.
+#[derive(Clone, Copy)]
+pub struct LastField(pub u32);
+
+impl Text for LastField {
+    ghost text = { λ f. tabbed (written f.0 ∷ []) ++ (10 ∷ []) };
+
+    ghost shown = { λ f. ⊤ };
+
+    fn put_into<S: Sink>(&self, sink: &mut S) -> Result<(), SaveFault> {
+        put_fields(sink, b"", &[self.0])
+    }
+}

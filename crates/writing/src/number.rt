@@ -1,9 +1,10 @@
 // Numerals put into a sink.
-ghost use Rattle.std.specs.Prelude.{◌≡◌, ◌≤◌, length, drop, OnErr};
+ghost use Rattle.std.specs.Prelude.{◌≡◌, ◌≤◌, length, drop, OnErr, ⊤};
 ghost use Rattle.text.specs.Numbers.{written};
 ghost use Rattle.writing.specs.Sinks.{Put};
 
 use crate::fault::SaveFault;
+use crate::save::Text;
 use crate::sink::Sink;
 
 // Writes the numeral of n at the end of the digits: where it begins. It stays beside `write!`, which does not promise when it fails.
@@ -30,4 +31,15 @@ pub fn put_number<S: Sink>(sink: &mut S, n: u32) -> Result<(), SaveFault>
     let mut digits = [0; 10];
     let first = fill_digits(&mut digits, n);
     sink.put(&digits[first..])
+}
+
+// A number, put as its numeral.
+impl Text for u32 {
+    ghost text = { λ n. written n };
+
+    ghost shown = { λ n. ⊤ };
+
+    fn put_into<S: Sink>(&self, sink: &mut S) -> Result<(), SaveFault> {
+        put_number(sink, *self)
+    }
 }

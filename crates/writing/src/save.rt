@@ -1,4 +1,4 @@
-// Whole texts saved into a lent buffer, and bytes put at a place of one.
+// Whole texts saved into a lent buffer, and texts and bytes put at a place of one.
 ghost use Rattle.std.specs.Prelude.{◌≡◌, ℕ, List, OnErr, OnOk};
 ghost use Rattle.writing.specs.Saves.{PutAt, Saved};
 ghost use Rattle.writing.specs.Sinks.{Put};
@@ -43,4 +43,18 @@ pub fn put_bytes(out: &mut [u8], at: usize, bytes: &[u8]) -> Result<usize, SaveF
     let mut buffer = Buffer { out, at };
     buffer.put(bytes)?;
     Ok(buffer.at)
+}
+
+// Puts a text at a place of a buffer: the place after it. There is no room where it, or the place, lies past its end, and then nothing is
+// put.
+pub fn put_at<T: Text>(text: &T, out: &mut [u8], at: usize) -> Result<usize, SaveFault>
+    ensures put { PutAt out.old at (T.text text.now) out.new result }
+    ensures shown { OnOk result (T.shown text.now) }
+{
+    let left = out.len().checked_sub(at).ok_or(SaveFault::NoRoom)?;
+    let mut room = Counter { left };
+    text.put_into(&mut room)?;
+    let end = out.len() - room.left;
+    text.put_into(&mut Buffer { out, at })?;
+    Ok(end)
 }
